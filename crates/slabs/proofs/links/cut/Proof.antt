@@ -1,0 +1,65 @@
+use borrow.Author.Needs.{needs}
+use Rattle.slabs.proofs.links.cut.Statement.{statement}
+use Rattle.slabs.proofs.links.cut.Tie as tie
+use Rattle.slabs.proofs.links.cut.Reads as reads
+use Rattle.slabs.proofs.links.cut.Lts as lts
+
+-- src/links.rt:30:16
+mul-word : tie.Need-mul-word
+mul-word c = search needs
+
+-- src/links.rt:30:16
+slice-read-word : tie.Need-slice-read-word
+slice-read-word c = search needs
+
+-- src/links.rt:32:9
+returns : tie.Need-returns
+returns c = ?
+
+-- src/links.rt:34:5
+mul-links : tie.Need-mul-links
+mul-links c = search needs
+
+-- src/links.rt:34:5
+slice-write-links : tie.Need-slice-write-links
+slice-write-links c = search needs
+
+-- src/links.rt:35:12
+sub-links : tie.Need-sub-links
+sub-links c = search needs
+
+-- src/links.rt:35:11
+cast-links : tie.Need-cast-links
+cast-links c = ?
+
+-- src/links.rt:35:5
+mul-links-2 : tie.Need-mul-links-2
+mul-links-2 c = ?
+
+-- src/links.rt:35:5
+slice-write-links-2 : tie.Need-slice-write-links-2
+slice-write-links-2 c = ?
+
+-- src/links.rt:26:1
+same-length : tie.Need-same-length
+same-length c = search needs
+
+-- src/links.rt:26:1
+returns-2 : tie.Need-returns-2
+returns-2 c = ?
+
+pub cut-spec : {M : Type 1} → statement M
+cut-spec =
+    tie.close
+    (tie.spec
+    mul-word
+    slice-read-word
+    returns
+    mul-links
+    slice-write-links
+    sub-links
+    cast-links
+    mul-links-2
+    slice-write-links-2
+    same-length
+    returns-2)

@@ -1,0 +1,28 @@
+use borrow.Author.Needs.{needs}
+use Rattle.slabs.proofs.links.link_at.Statement.{statement}
+use Rattle.slabs.proofs.links.link_at.Tie as tie
+use Rattle.slabs.proofs.links.link_at.Reads as reads
+use Rattle.slabs.proofs.links.link_at.Lts as lts
+
+-- src/links.rt:18:16
+mul-word : tie.Need-mul-word
+mul-word c = search needs
+
+-- src/links.rt:18:16
+shared-slice-read-word : tie.Need-shared-slice-read-word
+shared-slice-read-word c = search needs
+
+-- src/links.rt:20:9
+returns : tie.Need-returns
+returns c = ?
+
+-- src/links.rt:22:14
+sub-t6 : tie.Need-sub-t6
+sub-t6 c = search needs
+
+-- src/links.rt:14:1
+returns-2 : tie.Need-returns-2
+returns-2 c = ?
+
+pub link-at-spec : {M : Type 1} → statement M
+link-at-spec = tie.close (tie.spec mul-word shared-slice-read-word returns sub-t6 returns-2)
