@@ -13,7 +13,7 @@ pub struct Counters {
 }
 
 // a less b, and 0 where b is more: a count never falls below none, whatever words it came from.
-fn less(a: u32, b: u32) -> u32
+pub fn less(a: u32, b: u32) -> u32
     ensures { λ r. ⌜ r ≡ a - b ⌝ }
 {
     if b < a { a - b } else { 0 }

@@ -3,7 +3,6 @@ ghost use mathlib.Core.Path.{_≡_};
 ghost use Prim.Native.Nat.{_+_, _≤_, _<_};
 ghost use lib.ListN.{length};
 ghost use Rattle.slabs.specs.Slab.{atHand, CanTake, TookSlab, filled, ownersWritten, CanFree, FreedSlab, headOf};
-
 use crate::counters::Counters;
 use crate::links;
 use crate::port_entry;
@@ -63,11 +62,22 @@ pub fn write_owners(owners: &mut [u32], node: u32, first: usize, inlets: usize, 
     ensures { λ _. ⌜ now (owners .exit) ≡ ownersWritten (now (owners .entry)) node first inlets outlets ⌝ }
 {
     fill(owners, first, inlets, port_entry::owner_word(node, 0));
-    fill(owners, first + inlets, outlets, port_entry::owner_word(node, 1));
+    fill(
+        owners,
+        first + inlets,
+        outlets,
+        port_entry::owner_word(node, 1),
+    );
 }
 
 // Frees a slab: cuts its wires, clears its owner words and puts it at the head of its chain. Says how many wires it cut.
-pub fn free_slab(links: &mut [u32], owners: &mut [u32], heads: &mut [u32], first: u32, size: u32) -> u32
+pub fn free_slab(
+    links: &mut [u32],
+    owners: &mut [u32],
+    heads: &mut [u32],
+    first: u32,
+    size: u32,
+) -> u32
     requires { ⌜ CanFree (now links) (now owners) (now heads) first size ⌝ }
     ensures { λ r. ⌜ FreedSlab (now (links .entry)) (now (owners .entry)) (now (heads .entry)) first size (now (links .exit)) (now (owners .exit)) (now (heads .exit)) r ⌝ }
 {

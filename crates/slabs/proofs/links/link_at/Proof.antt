@@ -1,3 +1,5 @@
+use borrow.Author.Tests.{eq-eqb, ne-eqb}
+use Rattle.slabs.specs.Links.{linkAt}
 use borrow.Author.Needs.{needs}
 use Rattle.slabs.proofs.links.link_at.Statement.{statement}
 use Rattle.slabs.proofs.links.link_at.Tie as tie
@@ -14,7 +16,8 @@ shared-slice-read-word c = search needs
 
 -- src/links.rt:20:9
 returns : tie.Need-returns
-returns c = ?
+unfolding linkAt
+returns c = simp (eq-eqb _ _ (c .if1 .taken))
 
 -- src/links.rt:22:14
 sub-t6 : tie.Need-sub-t6
@@ -22,7 +25,8 @@ sub-t6 c = search needs
 
 -- src/links.rt:14:1
 returns-2 : tie.Need-returns-2
-returns-2 c = ?
+unfolding linkAt
+returns-2 c = simp (ne-eqb _ _ (c .if1 .left))
 
 pub link-at-spec : {M : Type 1} → statement M
 link-at-spec = tie.close (tie.spec mul-word shared-slice-read-word returns sub-t6 returns-2)

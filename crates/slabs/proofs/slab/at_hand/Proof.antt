@@ -1,3 +1,5 @@
+use borrow.Author.Tests.{eq-eqb, ne-eqb}
+use Rattle.slabs.specs.Slab.{atHand}
 use borrow.Author.Needs.{needs}
 use Rattle.slabs.proofs.slab.at_hand.Statement.{statement}
 use Rattle.slabs.proofs.slab.at_hand.Tie as tie
@@ -22,7 +24,8 @@ shared-slice-read-head c = search needs
 
 -- src/slab.rt:18:9
 returns : tie.Need-returns
-returns c = ?
+unfolding atHand
+returns c = simp (ne-eqb _ _ (c .if1 .taken))
 
 -- src/slab.rt:20:5
 add-result : tie.Need-add-result
@@ -30,7 +33,8 @@ add-result c = search needs
 
 -- src/slab.rt:12:1
 returns-2 : tie.Need-returns-2
-returns-2 c = ?
+unfolding atHand
+returns-2 c = simp (eq-eqb _ _ (c .if1 .left))
 
 pub at-hand-spec : {M : Type 1} → statement M
 at-hand-spec =

@@ -1,3 +1,9 @@
+use lib.ListN.{length}
+use Prim.Native.Nat.{_+_}
+use native.Mathlib.Omega.{arith}
+use borrow.Author.Tests.{eq-eqb, ne-eqb, leb-true}
+use mathlib.Core.Path.{refl}
+use Rattle.slabs.specs.Slab.{atHand, takenFirst, takenMark, takenLinks, takenHeads}
 use borrow.Author.Needs.{needs}
 use Rattle.slabs.proofs.slab.take_slab.Statement.{statement}
 use Rattle.slabs.proofs.slab.take_slab.Tie as tie
@@ -23,11 +29,16 @@ slice-read-head c = search needs
 
 -- src/slab.rt:39:23
 mark-raised-requires : tie.Need-mark-raised-requires
-mark-raised-requires c κs = search needs
+unfolding atHand
+mark-raised-requires c κs =
+    let a = c .before .before .before .before .args in
+    omega (arith, leb-true (a .counters .portmark + a .size) (length (a .links .now)) (simp (eq-eqb _ _ (c .if1 .taken)) at (c .before .before .before .before .pre .had)))
 
 -- src/slab.rt:37:9
 returns : tie.Need-returns
-returns c = ?
+unfolding takenFirst takenMark takenLinks takenHeads
+returns c =
+    record { first = simp (eq-eqb _ _ (c .before .if1 .taken)); counters = simp (eq-eqb _ _ (c .before .if1 .taken)) (c .mark-raised .ensures); links-after = simp (eq-eqb _ _ (c .before .if1 .taken)); heads-after = simp (eq-eqb _ _ (c .before .if1 .taken)) }
 
 -- src/slab.rt:42:17
 sub-first : tie.Need-sub-first
@@ -75,7 +86,9 @@ same-length-2 c = search needs
 
 -- src/slab.rt:30:1
 returns-2 : tie.Need-returns-2
-returns-2 c = ?
+unfolding takenFirst takenMark takenLinks takenHeads
+returns-2 c =
+    record { first = simp (ne-eqb _ _ (c .before .if1 .left)); counters = simp (ne-eqb _ _ (c .before .if1 .left)); links-after = simp (ne-eqb _ _ (c .before .if1 .left)); heads-after = simp (ne-eqb _ _ (c .before .if1 .left)) }
 
 pub take-slab-spec : {M : Type 1} → statement M
 take-slab-spec =

@@ -11,7 +11,7 @@ less-requires c κs = search needs
 
 -- src/counters.rt:91:5
 returns : tie.Need-returns
-returns c = ?
+returns c = rw (c .less .ensures)
 
 pub node-uncounted-spec : {M : Type 1} → statement M
 node-uncounted-spec = tie.close (tie.spec less-requires returns)

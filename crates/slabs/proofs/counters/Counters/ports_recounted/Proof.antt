@@ -15,7 +15,7 @@ add-self c = search needs
 
 -- src/counters.rt:98:5
 returns : tie.Need-returns
-returns c = ?
+returns c = rw (c .less .ensures)
 
 pub ports-recounted-spec : {M : Type 1} → statement M
 ports-recounted-spec = tie.close (tie.spec less-requires add-self returns)

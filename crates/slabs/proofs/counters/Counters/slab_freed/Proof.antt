@@ -15,7 +15,7 @@ less-requires-2 c κs = search needs
 
 -- src/counters.rt:51:5
 returns : tie.Need-returns
-returns c = ?
+returns c = rw (c .less2 .ensures, c .before .less .ensures)
 
 pub slab-freed-spec : {M : Type 1} → statement M
 slab-freed-spec = tie.close (tie.spec less-requires less-requires-2 returns)
