@@ -1,2 +1,3 @@
 -- The laws that the proofs of this crate, and of the crates above it, cite.
 pub mod Shapes
+pub mod SumLaws
