@@ -1,3 +1,4 @@
 -- The laws that the proofs of this crate, and of the crates above it, cite.
 pub mod Shapes
 pub mod SumLaws
+pub mod SlabLaws
