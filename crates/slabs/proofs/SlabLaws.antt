@@ -86,6 +86,11 @@ pub starts-free : (chains : ℕ → List ℕ) (sizes p : ℕ) → startsAt chain
 unfolding startsAt freeAt
 starts-free chains sizes p = sum-le _ _ sizes (λ i l. sumOf-le _ _ (chains i) (λ first. isPort-in first i p))
 
+-- So does the first port of a slab of one chain.
+pub chain-free : (chains : ℕ → List ℕ) (sizes i p : ℕ) → i < sizes → sumOf (λ f. isPort f p) (chains i) ≤ freeAt chains sizes p
+unfolding startsAt
+chain-free chains sizes i p l = omega (arith, starts-free chains sizes p, sum-term (λ j. sumOf (λ f. isPort f p) (chains j)) sizes i l)
+
 -- A chain stands where its numbers lead on as before.
 pub chain-kept : (next next′ : ℕ → ℕ) (word : ℕ) (ps : List ℕ) → ((q : ℕ) → 1 ≤ sumOf (λ f. isPort f q) ps → next q ≡ next′ q) → Chain next word ps → Chain next′ word ps
 unfolding sumOf
@@ -94,29 +99,21 @@ chain-kept next next′ word (p ∷ ps) same c =
     (c .0, rw (← same p (omega (arith, isPort-yes p p refl))) (chain-kept next next′ (next p) ps (λ q h. same q (omega arith)) (c .1)))
 
 module _ {links owners heads : List ℕ} {mark : ℕ} {held : ℕ → ℕ} (s : Slabs links owners heads mark held) where
-  -- A free port is held by nobody.
-  pub free-unheld : (p : ℕ) → 1 ≤ freeAt (s .chains) (length heads) p → held p ≡ 0
-  free-unheld p h = go (decLt p mark)
+  -- A port lies in one slab at most, held or free.
+  pub at-most-once : (p : ℕ) → held p + freeAt (s .chains) (length heads) p ≤ 1
+  at-most-once p = go (decLt p mark)
     where
-      go : Dec (p < mark) → held p ≡ 0
+      go : Dec (p < mark) → held p + freeAt (s .chains) (length heads) p ≤ 1
       go (yes k) = omega (arith, s .once p k)
       go (no k) = omega (arith, s .within p (omega arith))
-
-  -- So is one where a free slab starts.
-  pub start-unheld : (i p : ℕ) → i < length heads → 1 ≤ sumOf (λ f. isPort f p) (s .chains i) → held p ≡ 0
-  unfolding startsAt
-  start-unheld i p l h =
-      free-unheld p
-      (omega
-      (arith, starts-free (s .chains) (length heads) p, sum-term (λ j. sumOf (λ f. isPort f p) (s .chains j)) (length heads) i l))
 
   -- No port lies in two held slabs.
   pub held-le : (p : ℕ) → held p ≤ 1
-  held-le p = go (decLt p mark)
-    where
-      go : Dec (p < mark) → held p ≤ 1
-      go (yes k) = omega (arith, s .once p k)
-      go (no k) = omega (arith, s .within p (omega arith))
+  held-le p = omega (arith, at-most-once p)
+
+  -- A port where a free slab starts is held by nobody.
+  pub start-unheld : (i p : ℕ) → i < length heads → 1 ≤ sumOf (λ f. isPort f p) (s .chains i) → held p ≡ 0
+  start-unheld i p l h = omega (arith, at-most-once p, chain-free (s .chains) (length heads) i p l)
 
   -- A port that is held is below the mark.
   pub held-below : (p : ℕ) → 1 ≤ held p → p < mark
@@ -129,26 +126,28 @@ module _ {links owners heads : List ℕ} {mark : ℕ} {held : ℕ → ℕ} (s : 
   -- An edit of words of held ports keeps the slab part.
   pub slabs-kept : (links′ owners′ : List ℕ) → length links′ ≡ length links → length owners′ ≡ length owners → ((p : ℕ) → held p ≡ 0 → getD links′ p 0 ≡ getD links p 0) → ((p : ℕ) → held p ≡ 0 → getD owners′ p 0 ≡ getD owners p 0) → Slabs links′ owners′ heads mark held
   slabs-kept links′ owners′ ll lo kl ko = record {
-      room = omega (arith, s .room);
-      equal = omega (arith, s .equal);
-      chains = s .chains;
-      chained = λ i l. chain-kept _ _ (getD heads i 0) (s .chains i) (λ q h. sym (kl q (start-unheld i q l h))) (s .chained i l);
-      once = s .once;
-      within = s .within;
-      bare = λ p h. ko p h ∙ s .bare p h;
-      loose = λ p h k. kl p h ∙ s .loose p h k }
+    room = omega (arith, s .room);
+    equal = omega (arith, s .equal);
+    chains = s .chains;
+    chained = λ i l. chain-kept _ _ (getD heads i 0) (s .chains i) (λ q h. sym (kl q (start-unheld i q l h))) (s .chained i l);
+    once = s .once;
+    within = s .within;
+    bare = λ p h. ko p h ∙ s .bare p h;
+    loose = λ p h k. kl p h ∙ s .loose p h k;
+  }
 
   -- The slab part speaks of who holds only by the count at each port.
   pub slabs-held : {held′ : ℕ → ℕ} → ((p : ℕ) → held p ≡ held′ p) → Slabs links owners heads mark held′
   slabs-held same = record {
-      room = s .room;
-      equal = s .equal;
-      chains = s .chains;
-      chained = s .chained;
-      once = λ p l. rw (← same p) (s .once p l);
-      within = λ p l. rw (← same p) (s .within p l);
-      bare = λ p h. s .bare p (same p ∙ h);
-      loose = λ p h. s .loose p (same p ∙ h) }
+    room = s .room;
+    equal = s .equal;
+    chains = s .chains;
+    chained = s .chained;
+    once = λ p l. rw (← same p) (s .once p l);
+    within = λ p l. rw (← same p) (s .within p l);
+    bare = λ p h. s .bare p (same p ∙ h);
+    loose = λ p h. s .loose p (same p ∙ h);
+  }
 
 -- A slab that is held ends at the mark or below it.
 pub end-of-slab : {links owners heads : List ℕ} {mark : ℕ} (held : ℕ → ℕ) (first size : ℕ) → Slabs links owners heads mark (with held first size) → 1 ≤ size → first + size ≤ mark
@@ -156,24 +155,24 @@ end-of-slab held first size s some =
     omega (arith, held-below s (first + (size - 1)) (omega (arith, inSlab-yes first size (first + (size - 1)) (omega arith) (omega arith))))
 
 -- Two families of free slabs where the second has one slab more, first in the chain i.
-pub record OneMore (chains more : ℕ → List ℕ) (i first : ℕ) : Type 0 where
-  pub here : more i ≡ first ∷ chains i
-  pub others : (j : ℕ) → (j ≡ i → ⊥) → more j ≡ chains j
+record OneMore (chains more : ℕ → List ℕ) (i first : ℕ) : Type 0 where
+  here : more i ≡ first ∷ chains i
+  others : (j : ℕ) → (j ≡ i → ⊥) → more j ≡ chains j
 
 -- Whatever is counted over the free slabs then counts that slab more.
-pub count-more : (chains more : ℕ → List ℕ) (i first : ℕ) (count : ℕ → ℕ → ℕ) (sizes : ℕ) → OneMore chains more i first → i < sizes → sum (λ j. sumOf (count j) (more j)) sizes ≡ sum (λ j. sumOf (count j) (chains j)) sizes + count i first
+count-more : (chains more : ℕ → List ℕ) (i first : ℕ) (count : ℕ → ℕ → ℕ) (sizes : ℕ) → OneMore chains more i first → i < sizes → sum (λ j. sumOf (count j) (more j)) sizes ≡ sum (λ j. sumOf (count j) (chains j)) sizes + count i first
 unfolding sumOf
 count-more chains more i first count sizes o l =
     omega
     (arith, ap (sumOf (count i)) (o .here), sum-change (λ j. sumOf (count j) (more j)) (λ j. sumOf (count j) (chains j)) sizes i l (λ j k d. ap (sumOf (count j)) (o .others j d)))
 
 -- Its ports are free once more,
-pub freeAt-more : (chains more : ℕ → List ℕ) (i first sizes p : ℕ) → OneMore chains more i first → i < sizes → freeAt more sizes p ≡ freeAt chains sizes p + inSlab first (suc i) p
+freeAt-more : (chains more : ℕ → List ℕ) (i first sizes p : ℕ) → OneMore chains more i first → i < sizes → freeAt more sizes p ≡ freeAt chains sizes p + inSlab first (suc i) p
 unfolding freeAt
 freeAt-more chains more i first sizes p o l = count-more chains more i first (λ j x. inSlab x (suc j) p) sizes o l
 
 -- and a slab more starts at its first port.
-pub startsAt-more : (chains more : ℕ → List ℕ) (i first sizes p : ℕ) → OneMore chains more i first → i < sizes → startsAt more sizes p ≡ startsAt chains sizes p + isPort first p
+startsAt-more : (chains more : ℕ → List ℕ) (i first sizes p : ℕ) → OneMore chains more i first → i < sizes → startsAt more sizes p ≡ startsAt chains sizes p + isPort first p
 unfolding startsAt
 startsAt-more chains more i first sizes p o l = count-more chains more i first (λ j x. isPort x p) sizes o l
 
@@ -203,3 +202,150 @@ take-cases P links heads mark size at-mark at-chain = go (headOf heads size) ref
     go : (w : ℕ) → headOf heads size ≡ w → P (pick (eqb w 0) links (set links (w - 1) 0)) (pick (eqb w 0) heads (set heads (size - 1) (getD links (w - 1) 0))) (pick (eqb w 0) (mark + size) mark) (pick (eqb w 0) mark (w - 1))
     go zero e = at-mark e
     go (suc first) e = let d : suc first - 1 ≡ first = omega arith in rw (d, ne-eqb (suc first) 0 (omega arith)) (at-chain first e)
+
+-- What is known of a slab that is taken: nobody held it or owned it, its link words are 0 afterwards, it lies below the new mark, and
+-- the link words outside it stay.
+pub record Fresh (links owners links′ : List ℕ) (mark′ : ℕ) (held : ℕ → ℕ) (first size : ℕ) : Type 0 where
+  pub unheld : (i : ℕ) → i < size → held (first + i) ≡ 0
+  pub unowned : (i : ℕ) → i < size → getD owners (first + i) 0 ≡ 0
+  pub unlinked : (i : ℕ) → i < size → getD links′ (first + i) 0 ≡ 0
+  pub ends : first + size ≤ mark′
+  pub inside : mark′ ≤ length links
+  pub others : (p : ℕ) → inSlab first size p ≡ 0 → getD links′ p 0 ≡ getD links p 0
+
+module _ {links owners heads : List ℕ} {mark : ℕ} {held : ℕ → ℕ} (s : Slabs links owners heads mark held) (size : ℕ) where
+  -- What starts at the mark is a slab, where the room above the mark is enough.
+  take-mark : mark + size ≤ length links → Slabs links owners heads (mark + size) (with held mark size)
+  take-mark fits =
+      record {
+        room = fits;
+        equal = s .equal;
+        chains = s .chains;
+        chained = s .chained;
+        once = λ p l. go p l (decLt p mark);
+        within = λ p l. omega (arith, s .within p (omega arith), inSlab-above mark size p l);
+        bare = λ p h. s .bare p (omega arith);
+        loose = λ p h. s .loose p (omega arith);
+      }
+    where
+      go : (p : ℕ) → p < mark + size → Dec (p < mark) → held p + inSlab mark size p + freeAt (s .chains) (length heads) p ≡ 1
+      go p l (yes k) = omega (arith, s .once p k, inSlab-below mark size p k)
+      go p l (no k) = omega (arith, s .within p (omega arith), inSlab-yes mark size p (omega arith) l)
+
+  fresh-mark : mark + size ≤ length links → Fresh links owners links (mark + size) held mark size
+  fresh-mark fits =
+      record {
+        unheld = λ i l. none (mark + i) (omega arith);
+        unowned = λ i l. s .bare (mark + i) (none (mark + i) (omega arith));
+        unlinked = λ i l. s .loose (mark + i) (none (mark + i) (omega arith)) (omega (arith, s .within (mark + i) (omega arith), starts-free (s .chains) (length heads) (mark + i)));
+        ends = omega arith;
+        inside = fits;
+        others = λ p h. refl;
+      }
+    where
+      none : (p : ℕ) → mark ≤ p → held p ≡ 0
+      none p l = omega (arith, s .within p l)
+
+  module _ (some : 1 ≤ size) (sized : size ≤ length heads) (first : ℕ) (leads : headOf heads size ≡ suc first) where
+    -- the chain of this size: first, and the rest
+    split : (rest : List ℕ) × (s .chains (size - 1) ≡ first ∷ rest) × Chain (λ p. getD links p 0) (getD links first 0) rest
+    split = chain-first (λ p. getD links p 0) first (s .chains (size - 1)) (rw leads at (s .chained (size - 1) (omega arith)))
+
+    -- the free slabs that are left
+    left : ℕ → List ℕ
+    left = swapped (s .chains) (size - 1) (split .0)
+
+    left-one : OneMore left (s .chains) (size - 1) first
+    unfolding left
+    left-one =
+        record {
+          here = rw swapped-here (split .1);
+          others = λ j d. sym (swapped-other (s .chains) (size - 1) (split .0) j d);
+        }
+
+    left-free : (p : ℕ) → freeAt (s .chains) (length heads) p ≡ freeAt left (length heads) p + inSlab first size p
+    left-free p =
+        let e : suc (size - 1) ≡ size = omega arith in
+        rw e at (freeAt-more left (s .chains) (size - 1) first (length heads) p left-one (omega arith))
+
+    left-starts : (p : ℕ) → startsAt (s .chains) (length heads) p ≡ startsAt left (length heads) p + isPort first p
+    left-starts p = startsAt-more left (s .chains) (size - 1) first (length heads) p left-one (omega arith)
+
+    -- no slab that is left has a port of the taken one
+    left-gone : (p : ℕ) → 1 ≤ inSlab first size p → freeAt left (length heads) p ≡ 0
+    left-gone p h = omega (arith, at-most-once s p, left-free p)
+
+    -- Taking a slab from its chain gives it to the holder.
+    take-chain : Slabs (set links first 0) owners (set heads (size - 1) (getD links first 0)) mark (with held first size)
+    unfolding left
+    take-chain =
+        record {
+          room = rw length-set (s .room);
+          equal = rw length-set (s .equal);
+          chains = left;
+          chained = λ i l. chain-kept _ _ _ (left i) (λ q h. stays i q (rw length-set at l) h) (before i (rw length-set at l) (ℕ-discrete i (size - 1)));
+          once = λ p l. rw length-set (omega (arith, left-free p, s .once p l));
+          within = λ p l. rw length-set (omega (arith, left-free p, s .within p l));
+          bare = λ p h. s .bare p (omega arith);
+          loose = λ p h k. cleared p h (rw length-set at k);
+        }
+      where
+        before : (i : ℕ) → i < length heads → Dec (i ≡ size - 1) → Chain (λ p. getD links p 0) (getD (set heads (size - 1) (getD links first 0)) i 0) (left i)
+        before i l (yes e) = rw (e, getD-set-same heads (size - 1) (getD links first 0) 0 (omega arith), swapped-here) (split .2)
+        before i l (no d) = rw (getD-set-other heads (size - 1) i (getD links first 0) 0 d, swapped-other (s .chains) (size - 1) (split .0) i d) (s .chained i l)
+
+        stays : (i q : ℕ) → i < length heads → 1 ≤ sumOf (λ f. isPort f q) (left i) → getD links q 0 ≡ getD (set links first 0) q 0
+        stays i q l h =
+            sym
+            (getD-set-other links first q 0 0
+            (λ e. omega (arith, left-gone q (omega (arith, inSlab-yes first size q (omega arith) (omega arith))), chain-free left (length heads) i q l)))
+
+        cleared : (p : ℕ) → with held first size p ≡ 0 → startsAt left (length heads) p ≡ 0 → getD (set links first 0) p 0 ≡ 0
+        cleared p h k =
+            let d : p ≡ first → ⊥ = λ e. omega (arith, inSlab-yes first size p (omega arith) (omega arith)) in
+            getD-set-other links first p 0 0 d ∙ s .loose p (omega arith) (omega (arith, left-starts p, isPort-no first p (omega arith)))
+
+    fresh-chain : Fresh links owners (set links first 0) mark held first size
+    fresh-chain =
+        record {
+          unheld = λ i l. none (first + i) (inside i l);
+          unowned = λ i l. s .bare (first + i) (none (first + i) (inside i l));
+          unlinked = λ i l. cleared (first + i) (inside i l) (ℕ-discrete (first + i) first);
+          ends = fits;
+          inside = s .room;
+          others = λ p h. getD-set-other links first p 0 0 (λ e. omega (arith, inSlab-yes first size p (omega arith) (omega arith)));
+        }
+      where
+        fits : first + size ≤ mark
+        fits = end-of-slab held first size take-chain some
+
+        inside : (i : ℕ) → i < size → inSlab first size (first + i) ≡ 1
+        inside i l = inSlab-yes first size (first + i) (omega arith) (omega arith)
+
+        none : (p : ℕ) → inSlab first size p ≡ 1 → held p ≡ 0
+        none p h = omega (arith, at-most-once s p, left-free p)
+
+        cleared : (p : ℕ) → inSlab first size p ≡ 1 → Dec (p ≡ first) → getD (set links first 0) p 0 ≡ 0
+        cleared p h (yes e) = rw e (getD-set-same links first 0 0 (omega (arith, fits, s .room)))
+        cleared p h (no d) =
+            getD-set-other links first p 0 0 d ∙
+            s .loose p (none p h)
+            (omega (arith, left-starts p, isPort-no first p (omega arith), starts-free left (length heads) p, left-gone p (omega arith)))
+
+-- A slab can be had from the mark only where the room above it is enough.
+pub atHand-room : (heads : List ℕ) (mark room size : ℕ) → headOf heads size ≡ 0 → atHand heads mark room size ≡ true → mark + size ≤ room
+unfolding atHand
+atHand-room heads mark room size e h = leb-true (mark + size) room (rw e at h)
+
+module _ {links owners heads : List ℕ} {mark : ℕ} {held : ℕ → ℕ} (s : Slabs links owners heads mark held) (size : ℕ) (some : 1 ≤ size) (sized : size ≤ length heads) (had : atHand heads mark (length links) size ≡ true) where
+  -- Taking a slab gives exactly one slab more to the holder.
+  pub take-gives : Slabs (takenLinks links heads size) owners (takenHeads links heads size) (takenMark heads mark size) (with held (takenFirst heads mark size) size)
+  take-gives =
+      take-cases (λ l h m f. Slabs l owners h m (with held f size)) links heads mark size
+      (λ e. take-mark s size (atHand-room heads mark (length links) size e had)) (take-chain s size some sized)
+
+  -- And it is a fresh one.
+  pub take-fresh : Fresh links owners (takenLinks links heads size) (takenMark heads mark size) held (takenFirst heads mark size) size
+  take-fresh =
+      take-cases (λ l h m f. Fresh links owners l m held f size) links heads mark size
+      (λ e. fresh-mark s size (atHand-room heads mark (length links) size e had)) (fresh-chain s size some sized)
