@@ -55,6 +55,13 @@ inSlab-lies first size p h = go (decLt p first) (decLe (first + size) p)
     go (no l) (yes u) = absurd (omega (arith, inSlab-above first size p u))
     go (no l) (no u) = (omega arith, omega arith)
 
+-- What holds at each port of a slab, counted from first, holds at each port that lies in it.
+pub inSlab-each : (P : ℕ → Type 0) (first size : ℕ) → ((i : ℕ) → i < size → P (first + i)) → (p : ℕ) → 1 ≤ inSlab first size p → P p
+inSlab-each P first size each p h = rw e at (each (p - first) (omega (arith, inSlab-lies first size p h)))
+  where
+    e : first + (p - first) ≡ p
+    e = omega (arith, inSlab-lies first size p h)
+
 -- A port is itself.
 pub isPort-yes : (first p : ℕ) → first ≡ p → isPort first p ≡ 1
 unfolding isPort
@@ -349,3 +356,63 @@ module _ {links owners heads : List ℕ} {mark : ℕ} {held : ℕ → ℕ} (s : 
   take-fresh =
       take-cases (λ l h m f. Fresh links owners l m held f size) links heads mark size
       (λ e. fresh-mark s size (atHand-room heads mark (length links) size e had)) (fresh-chain s size some sized)
+
+module _ {links owners heads : List ℕ} {mark : ℕ} (held : ℕ → ℕ) (first size : ℕ) (s : Slabs links owners heads mark (with held first size)) (some : 1 ≤ size) (sized : size ≤ length heads) where
+  -- the free slabs, and this one
+  more : ℕ → List ℕ
+  more = swapped (s .chains) (size - 1) (first ∷ s .chains (size - 1))
+
+  more-one : OneMore (s .chains) more (size - 1) first
+  unfolding more
+  more-one = record { here = swapped-here (s .chains) (size - 1) _; others = swapped-other (s .chains) (size - 1) _ }
+
+  more-free : (p : ℕ) → freeAt more (length heads) p ≡ freeAt (s .chains) (length heads) p + inSlab first size p
+  more-free p =
+      let e : suc (size - 1) ≡ size = omega arith in
+      rw e at (freeAt-more (s .chains) more (size - 1) first (length heads) p more-one (omega arith))
+
+  more-starts : (p : ℕ) → startsAt more (length heads) p ≡ startsAt (s .chains) (length heads) p + isPort first p
+  more-starts p = startsAt-more (s .chains) more (size - 1) first (length heads) p more-one (omega arith)
+
+  -- A slab whose words are cleared, and which leads to its chain's first slab, is free: whatever cleared them, if it left the words of
+  -- ports that nobody holds.
+  pub free-returns-core : (links′ owners′ : List ℕ) → length links′ ≡ length links → length owners′ ≡ length owners → ((i : ℕ) → i < size → getD links′ (first + i) 0 ≡ 0) → ((p : ℕ) → with held first size p ≡ 0 → getD links′ p 0 ≡ getD links p 0) → ((i : ℕ) → i < size → getD owners′ (first + i) 0 ≡ 0) → ((p : ℕ) → inSlab first size p ≡ 0 → getD owners′ p 0 ≡ getD owners p 0) → Slabs (set links′ first (headOf heads size)) owners′ (set heads (size - 1) (first + 1)) mark held
+  unfolding more
+  free-returns-core links′ owners′ ll lo cut kept bared others =
+      record {
+        room = rw (length-set, ll) (s .room);
+        equal = rw (length-set, ll, lo) (s .equal);
+        chains = more;
+        chained = λ i l. chain i (rw length-set at l) (ℕ-discrete i (size - 1));
+        once = λ p l. rw length-set (omega (arith, more-free p, s .once p l));
+        within = λ p l. rw length-set (omega (arith, more-free p, s .within p l));
+        bare = λ p h. nobody p h (decLe 1 (inSlab first size p));
+        loose = λ p h k. cleared p h (rw length-set at k);
+      }
+    where
+      fits : first + size ≤ length links
+      fits = omega (arith, end-of-slab held first size s some, s .room)
+
+      stays : (q : ℕ) → with held first size q ≡ 0 → getD links q 0 ≡ getD (set links′ first (headOf heads size)) q 0
+      stays q h =
+          sym (getD-set-other links′ first q (headOf heads size) 0 (λ e. omega (arith, inSlab-yes first size q (omega arith) (omega arith))) ∙ kept q h)
+
+      old : (i : ℕ) → i < length heads → Chain (λ q. getD (set links′ first (headOf heads size)) q 0) (getD heads i 0) (s .chains i)
+      old i l = chain-kept _ _ (getD heads i 0) (s .chains i) (λ q h. stays q (start-unheld s i q l h)) (s .chained i l)
+
+      chain : (i : ℕ) → i < length heads → Dec (i ≡ size - 1) → Chain (λ q. getD (set links′ first (headOf heads size)) q 0) (getD (set heads (size - 1) (first + 1)) i 0) (more i)
+      chain i l (yes e) = rw (e, getD-set-same heads (size - 1) (first + 1) 0 (omega arith), swapped-here) (omega arith, rw (getD-set-same links′ first (headOf heads size) 0 (omega (arith, fits))) (old (size - 1) (omega arith)))
+      chain i l (no d) = rw (getD-set-other heads (size - 1) i (first + 1) 0 d, swapped-other (s .chains) (size - 1) (first ∷ s .chains (size - 1)) i d) (old i l)
+
+      nobody : (p : ℕ) → held p ≡ 0 → Dec (1 ≤ inSlab first size p) → getD owners′ p 0 ≡ 0
+      nobody p h (yes k) = inSlab-each (λ q. getD owners′ q 0 ≡ 0) first size bared p k
+      nobody p h (no k) = others p (omega arith) ∙ s .bare p (omega arith)
+
+      loosed : (p : ℕ) → held p ≡ 0 → startsAt (s .chains) (length heads) p ≡ 0 → Dec (1 ≤ inSlab first size p) → getD links′ p 0 ≡ 0
+      loosed p h e (yes k) = inSlab-each (λ q. getD links′ q 0 ≡ 0) first size cut p k
+      loosed p h e (no k) = kept p (omega arith) ∙ s .loose p (omega arith) e
+
+      cleared : (p : ℕ) → held p ≡ 0 → startsAt more (length heads) p ≡ 0 → getD (set links′ first (headOf heads size)) p 0 ≡ 0
+      cleared p h k =
+          getD-set-other links′ first p (headOf heads size) 0 (λ e. omega (arith, more-starts p, isPort-yes first p (omega arith))) ∙
+          loosed p h (omega (arith, more-starts p)) (decLe 1 (inSlab first size p))
