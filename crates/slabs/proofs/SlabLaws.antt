@@ -4,18 +4,18 @@ use Prim.Native.Nat.{ℕ, suc, zero, _+_, _-_, _≤_, _<_}
 use mathlib.Core.Path.{_≡_, refl, ap, sym, _∙_}
 use mathlib.Core.List.{List, [], _∷_}
 use mathlib.Core.Bool.{Bool, true, false}
-use native.Mathlib.Nat.{add-zero, add-suc}
 use native.Mathlib.Omega.{arith}
 use native.Mathlib.Decide.{ℕ-discrete, decLt, decLe}
-use lib.ListN.{length, getD, set, length-set}
+use lib.ListN.{length, getD, set, length-set, List·getD-eq-default}
 use lib.Seq.{getD-set-same, getD-set-other}
 use lib.Dec.{eqb, leb, ltb}
-use borrow.Author.Tests.{eq-eqb, ne-eqb, lt-ltb, le-ltb, le-leb, lt-leb, eqb-true, leb-true}
+use borrow.Author.Tests.{eq-eqb, ne-eqb, lt-ltb, le-ltb, le-leb, lt-leb, leb-true}
 use Rattle.slabs.specs.Choice.{pick}
 use Rattle.slabs.specs.Sums.{sum, sumOf}
+use Rattle.slabs.specs.Links.{Inside, Mate, Wiring, cutRun}
 use Rattle.slabs.specs.Slab.{headOf, atHand, takenFirst, takenLinks, takenHeads, takenMark, freedLinks, freedOwners, freedHeads}
 use Rattle.slabs.specs.Slabs.{inSlab, isPort, Chain, freeAt, startsAt, Slabs, with}
-use Rattle.slabs.proofs.SumLaws.{sum-ext, sum-change, sum-none, sum-term, sum-le, sumOf-le}
+use Rattle.slabs.proofs.SumLaws.{sum-change, sum-term, sum-some, sum-le, sumOf-le}
 
 -- A port from first on and before the end lies in the slab.
 pub inSlab-yes : (first size p : ℕ) → first ≤ p → p < first + size → inSlab first size p ≡ 1
@@ -105,6 +105,25 @@ chain-kept next next′ word [] same c = c
 chain-kept next next′ word (p ∷ ps) same c =
     (c .0, rw (← same p (omega (arith, isPort-yes p p refl))) (chain-kept next next′ (next p) ps (λ q h. same q (omega arith)) (c .1)))
 
+-- A chain of numbers below b starts with a word of at most b,
+chain-word : (next : ℕ → ℕ) (b word : ℕ) (ps : List ℕ) → ((q : ℕ) → 1 ≤ sumOf (λ f. isPort f q) ps → q < b) → Chain next word ps → word ≤ b
+unfolding sumOf
+chain-word next b word [] low c = omega arith
+chain-word next b word (p ∷ ps) low c = omega (arith, low p (omega (arith, isPort-yes p p refl)))
+
+-- and each of its numbers leads on by such a word.
+chain-next : (next : ℕ → ℕ) (b word : ℕ) (ps : List ℕ) → ((q : ℕ) → 1 ≤ sumOf (λ f. isPort f q) ps → q < b) → Chain next word ps → (p : ℕ) → 1 ≤ sumOf (λ f. isPort f p) ps → next p ≤ b
+unfolding sumOf
+chain-next next b word [] low c p h = absurd (omega arith)
+chain-next next b word (x ∷ ps) low c p h = go (decLe 1 (isPort x p)) (chain-next next b (next x) ps later (c .1) p)
+  where
+    later : (q : ℕ) → 1 ≤ sumOf (λ f. isPort f q) ps → q < b
+    later q k = low q (omega arith)
+
+    go : Dec (1 ≤ isPort x p) → (1 ≤ sumOf (λ f. isPort f p) ps → next p ≤ b) → next p ≤ b
+    go (yes k) below = rw (← isPort-is x p k) (chain-word next b (next x) ps later (c .1))
+    go (no k) below = below (omega arith)
+
 module _ {links owners heads : List ℕ} {mark : ℕ} {held : ℕ → ℕ} (s : Slabs links owners heads mark held) where
   -- A port lies in one slab at most, held or free.
   pub at-most-once : (p : ℕ) → held p + freeAt (s .chains) (length heads) p ≤ 1
@@ -129,6 +148,48 @@ module _ {links owners heads : List ℕ} {mark : ℕ} {held : ℕ → ℕ} (s : 
       go : Dec (p < mark) → p < mark
       go (yes k) = k
       go (no k) = absurd (omega (arith, s .within p (omega arith)))
+
+  -- So is one that is free.
+  pub free-below : (p : ℕ) → 1 ≤ freeAt (s .chains) (length heads) p → p < mark
+  free-below p h = go (decLt p mark)
+    where
+      go : Dec (p < mark) → p < mark
+      go (yes k) = k
+      go (no k) = absurd (omega (arith, s .within p (omega arith)))
+
+  -- So is the first port of a free slab.
+  start-below : (i p : ℕ) → i < length heads → 1 ≤ sumOf (λ f. isPort f p) (s .chains i) → p < mark
+  start-below i p l h = free-below p (omega (arith, chain-free (s .chains) (length heads) i p l))
+
+  -- A head word is 0 or leads to a port below the mark.
+  pub heads-inside : (i : ℕ) → i < length heads → getD heads i 0 ≤ mark
+  heads-inside i l = chain-word _ mark (getD heads i 0) (s .chains i) (λ q. start-below i q l) (s .chained i l)
+
+  -- No link word leads outside: that of a held port leads to its mate, which is live, and that of a free slab to a free slab.
+  pub links-inside : Wiring owners links held → Inside links
+  unfolding startsAt
+  links-inside wiring p = by-holder (decLe 1 (held p))
+    where
+      short : (q : ℕ) → (getD owners q 0 ≡ 0 → ⊥) → q < length owners
+      short q live = go (decLt q (length owners))
+        where
+          go : Dec (q < length owners) → q < length owners
+          go (yes k) = k
+          go (no k) = absurd (live (List·getD-eq-default owners 0 (omega arith)))
+
+      by-word : (w : ℕ) → getD links p 0 ≡ w → 1 ≤ held p → w ≤ length links
+      by-word zero e h = omega arith
+      by-word (suc q) e h = omega (arith, short q (wiring p q h e .there), s .equal)
+
+      by-start : held p ≡ 0 → Dec (1 ≤ startsAt (s .chains) (length heads) p) → getD links p 0 ≤ length links
+      by-start h (yes k) =
+          let t = sum-some (λ j. sumOf (λ f. isPort f p) (s .chains j)) (length heads) k in
+          omega (arith, s .room, chain-next _ mark (getD heads (t .0) 0) (s .chains (t .0)) (λ q. start-below (t .0) q (t .1)) (s .chained (t .0) (t .1)) p (t .2))
+      by-start h (no k) = omega (arith, s .loose p h (omega arith))
+
+      by-holder : Dec (1 ≤ held p) → getD links p 0 ≤ length links
+      by-holder (yes h) = by-word (getD links p 0) refl h
+      by-holder (no h) = by-start (omega arith) (decLe 1 (startsAt (s .chains) (length heads) p))
 
   -- An edit of words of held ports keeps the slab part.
   pub slabs-kept : (links′ owners′ : List ℕ) → length links′ ≡ length links → length owners′ ≡ length owners → ((p : ℕ) → held p ≡ 0 → getD links′ p 0 ≡ getD links p 0) → ((p : ℕ) → held p ≡ 0 → getD owners′ p 0 ≡ getD owners p 0) → Slabs links′ owners′ heads mark held

@@ -5,7 +5,7 @@ use mathlib.Core.Path.{_≡_, refl}
 use mathlib.Core.List.{List, [], _∷_, _++_}
 use native.Mathlib.Nat.{add-zero, add-suc}
 use native.Mathlib.Omega.{arith}
-use native.Mathlib.Decide.{ℕ-discrete}
+use native.Mathlib.Decide.{ℕ-discrete, decLe}
 use Rattle.slabs.specs.Sums.{sum, sumOf}
 
 -- Sums of equal terms are equal.
@@ -50,7 +50,17 @@ sum-term f (suc n) i l = go (ℕ-discrete i n) (sum-term f n i)
 pub sum-none : (f : ℕ → ℕ) (n i : ℕ) → sum f n ≡ 0 → i < n → f i ≡ 0
 sum-none f n i e l = omega (arith, sum-term f n i l)
 
--- Nor are two of its terms together.
+-- Where a sum is not 0, neither is one of its terms.
+pub sum-some : (f : ℕ → ℕ) (n : ℕ) → 1 ≤ sum f n → (i : ℕ) × (i < n) × (1 ≤ f i)
+unfolding sum
+sum-some f zero h = absurd (omega arith)
+sum-some f (suc n) h = go (decLe 1 (f n)) (sum-some f n)
+  where
+    go : Dec (1 ≤ f n) → (1 ≤ sum f n → (i : ℕ) × (i < n) × (1 ≤ f i)) → (i : ℕ) × (i < suc n) × (1 ≤ f i)
+    go (yes k) below = (n, omega arith, k)
+    go (no k) below = let t = below (omega arith) in (t .0, omega (arith, t .1), t .2)
+
+-- Two terms together are no greater than their sum.
 pub sum-two : (f : ℕ → ℕ) (n i j : ℕ) → i < n → j < n → (i ≡ j → ⊥) → f i + f j ≤ sum f n
 unfolding sum
 sum-two f zero i j li lj d = absurd (omega arith)
