@@ -13,8 +13,11 @@ use borrow.Author.Tests.{eq-eqb, ne-eqb, lt-ltb, le-ltb, le-leb, lt-leb, leb-tru
 use Rattle.slabs.specs.Choice.{pick}
 use Rattle.slabs.specs.Sums.{sum, sumOf}
 use Rattle.slabs.specs.Links.{Inside, Mate, Wiring, cutRun}
-use Rattle.slabs.specs.Slab.{headOf, atHand, takenFirst, takenLinks, takenHeads, takenMark, freedLinks, freedOwners, freedHeads}
+use Rattle.slabs.specs.Slab.{headOf, atHand, takenFirst, takenLinks, takenHeads, takenMark, filled, freedLinks, freedOwners, freedHeads}
 use Rattle.slabs.specs.Slabs.{inSlab, isPort, Chain, freeAt, startsAt, Slabs, with}
+use Rattle.slabs.proofs.Shapes.{cutRun-length, filled-length}
+use Rattle.slabs.proofs.FillLaws.{filled-in, filled-apart}
+use Rattle.slabs.proofs.WireLaws.{cutRun-in, cutRun-still}
 use Rattle.slabs.proofs.SumLaws.{sum-change, sum-term, sum-some, sum-le, sumOf-le}
 
 -- A port from first on and before the end lies in the slab.
@@ -62,6 +65,14 @@ inSlab-each P first size each p h = rw e at (each (p - first) (omega (arith, inS
     e : first + (p - first) ≡ p
     e = omega (arith, inSlab-lies first size p h)
 
+-- Each of its ports, counted from first, lies in it.
+pub inSlab-at : (first size i : ℕ) → i < size → inSlab first size (first + i) ≡ 1
+inSlab-at first size i l = inSlab-yes first size (first + i) (omega arith) (omega arith)
+
+-- A port outside a slab is not its first one.
+pub inSlab-apart : (first size p : ℕ) → 1 ≤ size → inSlab first size p ≡ 0 → p ≡ first → ⊥
+inSlab-apart first size p some out e = omega (arith, inSlab-yes first size p (omega arith) (omega arith))
+
 -- A port is itself.
 pub isPort-yes : (first p : ℕ) → first ≡ p → isPort first p ≡ 1
 unfolding isPort
@@ -99,20 +110,23 @@ unfolding startsAt
 chain-free chains sizes i p l = omega (arith, starts-free chains sizes p, sum-term (λ j. sumOf (λ f. isPort f p) (chains j)) sizes i l)
 
 -- A chain stands where its numbers lead on as before.
-pub chain-kept : (next next′ : ℕ → ℕ) (word : ℕ) (ps : List ℕ) → ((q : ℕ) → 1 ≤ sumOf (λ f. isPort f q) ps → next q ≡ next′ q) → Chain next word ps → Chain next′ word ps
+pub chain-kept : (next next′ : ℕ → ℕ) (word : ℕ) (ps : List ℕ) → ((q : ℕ) → 1 ≤ sumOf (λ f. isPort f q) ps → next q ≡ next′ q)
+    → Chain next word ps → Chain next′ word ps
 unfolding sumOf
 chain-kept next next′ word [] same c = c
 chain-kept next next′ word (p ∷ ps) same c =
     (c .0, rw (← same p (omega (arith, isPort-yes p p refl))) (chain-kept next next′ (next p) ps (λ q h. same q (omega arith)) (c .1)))
 
 -- A chain of numbers below b starts with a word of at most b,
-chain-word : (next : ℕ → ℕ) (b word : ℕ) (ps : List ℕ) → ((q : ℕ) → 1 ≤ sumOf (λ f. isPort f q) ps → q < b) → Chain next word ps → word ≤ b
+chain-word : (next : ℕ → ℕ) (b word : ℕ) (ps : List ℕ) → ((q : ℕ) → 1 ≤ sumOf (λ f. isPort f q) ps → q < b) → Chain next word ps
+    → word ≤ b
 unfolding sumOf
 chain-word next b word [] low c = omega arith
 chain-word next b word (p ∷ ps) low c = omega (arith, low p (omega (arith, isPort-yes p p refl)))
 
 -- and each of its numbers leads on by such a word.
-chain-next : (next : ℕ → ℕ) (b word : ℕ) (ps : List ℕ) → ((q : ℕ) → 1 ≤ sumOf (λ f. isPort f q) ps → q < b) → Chain next word ps → (p : ℕ) → 1 ≤ sumOf (λ f. isPort f p) ps → next p ≤ b
+chain-next : (next : ℕ → ℕ) (b word : ℕ) (ps : List ℕ) → ((q : ℕ) → 1 ≤ sumOf (λ f. isPort f q) ps → q < b) → Chain next word ps
+    → (p : ℕ) → 1 ≤ sumOf (λ f. isPort f p) ps → next p ≤ b
 unfolding sumOf
 chain-next next b word [] low c p h = absurd (omega arith)
 chain-next next b word (x ∷ ps) low c p h = go (decLe 1 (isPort x p)) (chain-next next b (next x) ps later (c .1) p)
@@ -183,8 +197,8 @@ module _ {links owners heads : List ℕ} {mark : ℕ} {held : ℕ → ℕ} (s : 
 
       by-start : held p ≡ 0 → Dec (1 ≤ startsAt (s .chains) (length heads) p) → getD links p 0 ≤ length links
       by-start h (yes k) =
-          let t = sum-some (λ j. sumOf (λ f. isPort f p) (s .chains j)) (length heads) k in
-          omega (arith, s .room, chain-next _ mark (getD heads (t .0) 0) (s .chains (t .0)) (λ q. start-below (t .0) q (t .1)) (s .chained (t .0) (t .1)) p (t .2))
+          let (i, l, m) = sum-some (λ j. sumOf (λ f. isPort f p) (s .chains j)) (length heads) k in
+          omega (arith, s .room, chain-next _ mark (getD heads i 0) (s .chains i) (λ q. start-below i q l) (s .chained i l) p m)
       by-start h (no k) = omega (arith, s .loose p h (omega arith))
 
       by-holder : Dec (1 ≤ held p) → getD links p 0 ≤ length links
@@ -192,7 +206,9 @@ module _ {links owners heads : List ℕ} {mark : ℕ} {held : ℕ → ℕ} (s : 
       by-holder (no h) = by-start (omega arith) (decLe 1 (startsAt (s .chains) (length heads) p))
 
   -- An edit of words of held ports keeps the slab part.
-  pub slabs-kept : (links′ owners′ : List ℕ) → length links′ ≡ length links → length owners′ ≡ length owners → ((p : ℕ) → held p ≡ 0 → getD links′ p 0 ≡ getD links p 0) → ((p : ℕ) → held p ≡ 0 → getD owners′ p 0 ≡ getD owners p 0) → Slabs links′ owners′ heads mark held
+  pub slabs-kept : (links′ owners′ : List ℕ) → length links′ ≡ length links → length owners′ ≡ length owners
+      → ((p : ℕ) → held p ≡ 0 → getD links′ p 0 ≡ getD links p 0) → ((p : ℕ) → held p ≡ 0 → getD owners′ p 0 ≡ getD owners p 0)
+      → Slabs links′ owners′ heads mark held
   slabs-kept links′ owners′ ll lo kl ko = record {
     room = omega (arith, s .room);
     equal = omega (arith, s .equal);
@@ -218,9 +234,10 @@ module _ {links owners heads : List ℕ} {mark : ℕ} {held : ℕ → ℕ} (s : 
   }
 
 -- A slab that is held ends at the mark or below it.
-pub end-of-slab : {links owners heads : List ℕ} {mark : ℕ} (held : ℕ → ℕ) (first size : ℕ) → Slabs links owners heads mark (with held first size) → 1 ≤ size → first + size ≤ mark
+pub end-of-slab : {links owners heads : List ℕ} {mark : ℕ} (held : ℕ → ℕ) (first size : ℕ)
+    → Slabs links owners heads mark (with held first size) → 1 ≤ size → first + size ≤ mark
 end-of-slab held first size s some =
-    omega (arith, held-below s (first + (size - 1)) (omega (arith, inSlab-yes first size (first + (size - 1)) (omega arith) (omega arith))))
+    omega (arith, held-below s (first + (size - 1)) (omega (arith, inSlab-at first size (size - 1) (omega arith))))
 
 -- Two families of free slabs where the second has one slab more, first in the chain i.
 record OneMore (chains more : ℕ → List ℕ) (i first : ℕ) : Type 0 where
@@ -228,19 +245,24 @@ record OneMore (chains more : ℕ → List ℕ) (i first : ℕ) : Type 0 where
   others : (j : ℕ) → (j ≡ i → ⊥) → more j ≡ chains j
 
 -- Whatever is counted over the free slabs then counts that slab more.
-count-more : (chains more : ℕ → List ℕ) (i first : ℕ) (count : ℕ → ℕ → ℕ) (sizes : ℕ) → OneMore chains more i first → i < sizes → sum (λ j. sumOf (count j) (more j)) sizes ≡ sum (λ j. sumOf (count j) (chains j)) sizes + count i first
+count-more : (chains more : ℕ → List ℕ) (i first : ℕ) (count : ℕ → ℕ → ℕ) (sizes : ℕ) → OneMore chains more i first → i < sizes
+    → sum (λ j. sumOf (count j) (more j)) sizes ≡ sum (λ j. sumOf (count j) (chains j)) sizes + count i first
 unfolding sumOf
 count-more chains more i first count sizes o l =
-    omega
-    (arith, ap (sumOf (count i)) (o .here), sum-change (λ j. sumOf (count j) (more j)) (λ j. sumOf (count j) (chains j)) sizes i l (λ j k d. ap (sumOf (count j)) (o .others j d)))
+    omega (arith, ap (sumOf (count i)) (o .here), sum-change (over more) (over chains) sizes i l (λ j k d. ap (sumOf (count j)) (o .others j d)))
+  where
+    over : (ℕ → List ℕ) → ℕ → ℕ
+    over them j = sumOf (count j) (them j)
 
 -- Its ports are free once more,
-freeAt-more : (chains more : ℕ → List ℕ) (i first sizes p : ℕ) → OneMore chains more i first → i < sizes → freeAt more sizes p ≡ freeAt chains sizes p + inSlab first (suc i) p
+freeAt-more : (chains more : ℕ → List ℕ) (i first sizes p : ℕ) → OneMore chains more i first → i < sizes
+    → freeAt more sizes p ≡ freeAt chains sizes p + inSlab first (suc i) p
 unfolding freeAt
 freeAt-more chains more i first sizes p o l = count-more chains more i first (λ j x. inSlab x (suc j) p) sizes o l
 
 -- and a slab more starts at its first port.
-startsAt-more : (chains more : ℕ → List ℕ) (i first sizes p : ℕ) → OneMore chains more i first → i < sizes → startsAt more sizes p ≡ startsAt chains sizes p + isPort first p
+startsAt-more : (chains more : ℕ → List ℕ) (i first sizes p : ℕ) → OneMore chains more i first → i < sizes
+    → startsAt more sizes p ≡ startsAt chains sizes p + isPort first p
 unfolding startsAt
 startsAt-more chains more i first sizes p o l = count-more chains more i first (λ j x. isPort x p) sizes o l
 
@@ -257,17 +279,23 @@ unfolding swapped
 swapped-other chains i ps j d = simp (ne-eqb j i d)
 
 -- Where a chain's word leads to a port, the chain is that port and a chain from its word on.
-chain-first : (next : ℕ → ℕ) (first : ℕ) (ps : List ℕ) → Chain next (suc first) ps → (rest : List ℕ) × (ps ≡ first ∷ rest) × Chain next (next first) rest
+chain-first : (next : ℕ → ℕ) (first : ℕ) (ps : List ℕ) → Chain next (suc first) ps
+    → (rest : List ℕ) × (ps ≡ first ∷ rest) × Chain next (next first) rest
 chain-first next first [] c = absurd (omega arith)
 chain-first next first (p ∷ ps) c =
     let e : p ≡ first = omega arith in (ps, ap (λ q. q ∷ ps) e, rw e at (c .1))
 
 -- How a slab is taken: from the mark where its chain is empty, else from its chain. What holds in both cases holds.
-pub take-cases : (P : List ℕ → List ℕ → ℕ → ℕ → Type 0) (links heads : List ℕ) (mark size : ℕ) → (headOf heads size ≡ 0 → P links heads (mark + size) mark) → ((first : ℕ) → headOf heads size ≡ suc first → P (set links first 0) (set heads (size - 1) (getD links first 0)) mark first) → P (takenLinks links heads size) (takenHeads links heads size) (takenMark heads mark size) (takenFirst heads mark size)
+pub take-cases : (P : List ℕ → List ℕ → ℕ → ℕ → Type 0) (links heads : List ℕ) (mark size : ℕ)
+    → (headOf heads size ≡ 0 → P links heads (mark + size) mark)
+    → ((first : ℕ) → headOf heads size ≡ suc first → P (set links first 0) (set heads (size - 1) (getD links first 0)) mark first)
+    → P (takenLinks links heads size) (takenHeads links heads size) (takenMark heads mark size) (takenFirst heads mark size)
 unfolding takenLinks takenHeads takenMark takenFirst
 take-cases P links heads mark size at-mark at-chain = go (headOf heads size) refl
   where
-    go : (w : ℕ) → headOf heads size ≡ w → P (pick (eqb w 0) links (set links (w - 1) 0)) (pick (eqb w 0) heads (set heads (size - 1) (getD links (w - 1) 0))) (pick (eqb w 0) (mark + size) mark) (pick (eqb w 0) mark (w - 1))
+    go : (w : ℕ) → headOf heads size ≡ w
+        → P (pick (eqb w 0) links (set links (w - 1) 0)) (pick (eqb w 0) heads (set heads (size - 1) (getD links (w - 1) 0)))
+        (pick (eqb w 0) (mark + size) mark) (pick (eqb w 0) mark (w - 1))
     go zero e = at-mark e
     go (suc first) e = let d : suc first - 1 ≡ first = omega arith in rw (d, ne-eqb (suc first) 0 (omega arith)) (at-chain first e)
 
@@ -305,7 +333,7 @@ module _ {links owners heads : List ℕ} {mark : ℕ} {held : ℕ → ℕ} (s : 
       record {
         unheld = λ i l. none (mark + i) (omega arith);
         unowned = λ i l. s .bare (mark + i) (none (mark + i) (omega arith));
-        unlinked = λ i l. s .loose (mark + i) (none (mark + i) (omega arith)) (omega (arith, s .within (mark + i) (omega arith), starts-free (s .chains) (length heads) (mark + i)));
+        unlinked = λ i l. s .loose (mark + i) (none (mark + i) (omega arith)) (unstarted (mark + i) (omega arith));
         ends = omega arith;
         inside = fits;
         others = λ p h. refl;
@@ -313,6 +341,9 @@ module _ {links owners heads : List ℕ} {mark : ℕ} {held : ℕ → ℕ} (s : 
     where
       none : (p : ℕ) → mark ≤ p → held p ≡ 0
       none p l = omega (arith, s .within p l)
+
+      unstarted : (p : ℕ) → mark ≤ p → startsAt (s .chains) (length heads) p ≡ 0
+      unstarted p l = omega (arith, s .within p l, starts-free (s .chains) (length heads) p)
 
   module _ (some : 1 ≤ size) (sized : size ≤ length heads) (first : ℕ) (leads : headOf heads size ≡ suc first) where
     -- the chain of this size: first, and the rest
@@ -351,44 +382,48 @@ module _ {links owners heads : List ℕ} {mark : ℕ} {held : ℕ → ℕ} (s : 
           room = rw length-set (s .room);
           equal = rw length-set (s .equal);
           chains = left;
-          chained = λ i l. chain-kept _ _ _ (left i) (λ q h. stays i q (rw length-set at l) h) (before i (rw length-set at l) (ℕ-discrete i (size - 1)));
+          chained = λ i l. after i (rw length-set at l);
           once = λ p l. rw length-set (omega (arith, left-free p, s .once p l));
           within = λ p l. rw length-set (omega (arith, left-free p, s .within p l));
           bare = λ p h. s .bare p (omega arith);
           loose = λ p h k. cleared p h (rw length-set at k);
         }
       where
-        before : (i : ℕ) → i < length heads → Dec (i ≡ size - 1) → Chain (λ p. getD links p 0) (getD (set heads (size - 1) (getD links first 0)) i 0) (left i)
+        before : (i : ℕ) → i < length heads → Dec (i ≡ size - 1)
+            → Chain (λ p. getD links p 0) (getD (set heads (size - 1) (getD links first 0)) i 0) (left i)
         before i l (yes e) = rw (e, getD-set-same heads (size - 1) (getD links first 0) 0 (omega arith), swapped-here) (split .2)
-        before i l (no d) = rw (getD-set-other heads (size - 1) i (getD links first 0) 0 d, swapped-other (s .chains) (size - 1) (split .0) i d) (s .chained i l)
+        before i l (no d) =
+            rw (getD-set-other heads (size - 1) i (getD links first 0) 0 d, swapped-other (s .chains) (size - 1) (split .0) i d)
+            (s .chained i l)
 
         stays : (i q : ℕ) → i < length heads → 1 ≤ sumOf (λ f. isPort f q) (left i) → getD links q 0 ≡ getD (set links first 0) q 0
         stays i q l h =
             sym
             (getD-set-other links first q 0 0
-            (λ e. omega (arith, left-gone q (omega (arith, inSlab-yes first size q (omega arith) (omega arith))), chain-free left (length heads) i q l)))
+            (inSlab-apart first size q some (omega (arith, at-most-once s q, left-free q, chain-free left (length heads) i q l))))
+
+        after : (i : ℕ) → i < length heads
+            → Chain (λ p. getD (set links first 0) p 0) (getD (set heads (size - 1) (getD links first 0)) i 0) (left i)
+        after i l = chain-kept _ _ _ (left i) (λ q. stays i q l) (before i l (ℕ-discrete i (size - 1)))
 
         cleared : (p : ℕ) → with held first size p ≡ 0 → startsAt left (length heads) p ≡ 0 → getD (set links first 0) p 0 ≡ 0
         cleared p h k =
-            let d : p ≡ first → ⊥ = λ e. omega (arith, inSlab-yes first size p (omega arith) (omega arith)) in
+            let d : p ≡ first → ⊥ = inSlab-apart first size p some (omega arith) in
             getD-set-other links first p 0 0 d ∙ s .loose p (omega arith) (omega (arith, left-starts p, isPort-no first p (omega arith)))
 
     fresh-chain : Fresh links owners (set links first 0) mark held first size
     fresh-chain =
         record {
-          unheld = λ i l. none (first + i) (inside i l);
-          unowned = λ i l. s .bare (first + i) (none (first + i) (inside i l));
-          unlinked = λ i l. cleared (first + i) (inside i l) (ℕ-discrete (first + i) first);
+          unheld = λ i l. none (first + i) (inSlab-at first size i l);
+          unowned = λ i l. s .bare (first + i) (none (first + i) (inSlab-at first size i l));
+          unlinked = λ i l. cleared (first + i) (inSlab-at first size i l) (ℕ-discrete (first + i) first);
           ends = fits;
           inside = s .room;
-          others = λ p h. getD-set-other links first p 0 0 (λ e. omega (arith, inSlab-yes first size p (omega arith) (omega arith)));
+          others = λ p h. getD-set-other links first p 0 0 (inSlab-apart first size p some h);
         }
       where
         fits : first + size ≤ mark
         fits = end-of-slab held first size take-chain some
-
-        inside : (i : ℕ) → i < size → inSlab first size (first + i) ≡ 1
-        inside i l = inSlab-yes first size (first + i) (omega arith) (omega arith)
 
         none : (p : ℕ) → inSlab first size p ≡ 1 → held p ≡ 0
         none p h = omega (arith, at-most-once s p, left-free p)
@@ -401,13 +436,16 @@ module _ {links owners heads : List ℕ} {mark : ℕ} {held : ℕ → ℕ} (s : 
             (omega (arith, left-starts p, isPort-no first p (omega arith), starts-free left (length heads) p, left-gone p (omega arith)))
 
 -- A slab can be had from the mark only where the room above it is enough.
-pub atHand-room : (heads : List ℕ) (mark room size : ℕ) → headOf heads size ≡ 0 → atHand heads mark room size ≡ true → mark + size ≤ room
+pub atHand-room : (heads : List ℕ) (mark room size : ℕ) → headOf heads size ≡ 0 → atHand heads mark room size ≡ true
+    → mark + size ≤ room
 unfolding atHand
 atHand-room heads mark room size e h = leb-true (mark + size) room (rw e at h)
 
-module _ {links owners heads : List ℕ} {mark : ℕ} {held : ℕ → ℕ} (s : Slabs links owners heads mark held) (size : ℕ) (some : 1 ≤ size) (sized : size ≤ length heads) (had : atHand heads mark (length links) size ≡ true) where
+module _ {links owners heads : List ℕ} {mark : ℕ} {held : ℕ → ℕ} (s : Slabs links owners heads mark held) (size : ℕ)
+    (some : 1 ≤ size) (sized : size ≤ length heads) (had : atHand heads mark (length links) size ≡ true) where
   -- Taking a slab gives exactly one slab more to the holder.
-  pub take-gives : Slabs (takenLinks links heads size) owners (takenHeads links heads size) (takenMark heads mark size) (with held (takenFirst heads mark size) size)
+  pub take-gives : Slabs (takenLinks links heads size) owners (takenHeads links heads size) (takenMark heads mark size)
+      (with held (takenFirst heads mark size) size)
   take-gives =
       take-cases (λ l h m f. Slabs l owners h m (with held f size)) links heads mark size
       (λ e. take-mark s size (atHand-room heads mark (length links) size e had)) (take-chain s size some sized)
@@ -418,7 +456,8 @@ module _ {links owners heads : List ℕ} {mark : ℕ} {held : ℕ → ℕ} (s : 
       take-cases (λ l h m f. Fresh links owners l m held f size) links heads mark size
       (λ e. fresh-mark s size (atHand-room heads mark (length links) size e had)) (fresh-chain s size some sized)
 
-module _ {links owners heads : List ℕ} {mark : ℕ} (held : ℕ → ℕ) (first size : ℕ) (s : Slabs links owners heads mark (with held first size)) (some : 1 ≤ size) (sized : size ≤ length heads) where
+module _ {links owners heads : List ℕ} {mark : ℕ} (held : ℕ → ℕ) (first size : ℕ)
+    (s : Slabs links owners heads mark (with held first size)) (some : 1 ≤ size) (sized : size ≤ length heads) where
   -- the free slabs, and this one
   more : ℕ → List ℕ
   more = swapped (s .chains) (size - 1) (first ∷ s .chains (size - 1))
@@ -437,7 +476,12 @@ module _ {links owners heads : List ℕ} {mark : ℕ} (held : ℕ → ℕ) (firs
 
   -- A slab whose words are cleared, and which leads to its chain's first slab, is free: whatever cleared them, if it left the words of
   -- ports that nobody holds.
-  pub free-returns-core : (links′ owners′ : List ℕ) → length links′ ≡ length links → length owners′ ≡ length owners → ((i : ℕ) → i < size → getD links′ (first + i) 0 ≡ 0) → ((p : ℕ) → with held first size p ≡ 0 → getD links′ p 0 ≡ getD links p 0) → ((i : ℕ) → i < size → getD owners′ (first + i) 0 ≡ 0) → ((p : ℕ) → inSlab first size p ≡ 0 → getD owners′ p 0 ≡ getD owners p 0) → Slabs (set links′ first (headOf heads size)) owners′ (set heads (size - 1) (first + 1)) mark held
+  pub free-returns-core : (links′ owners′ : List ℕ) → length links′ ≡ length links → length owners′ ≡ length owners
+      → ((i : ℕ) → i < size → getD links′ (first + i) 0 ≡ 0)
+      → ((p : ℕ) → with held first size p ≡ 0 → getD links′ p 0 ≡ getD links p 0)
+      → ((i : ℕ) → i < size → getD owners′ (first + i) 0 ≡ 0)
+      → ((p : ℕ) → inSlab first size p ≡ 0 → getD owners′ p 0 ≡ getD owners p 0)
+      → Slabs (set links′ first (headOf heads size)) owners′ (set heads (size - 1) (first + 1)) mark held
   unfolding more
   free-returns-core links′ owners′ ll lo cut kept bared others =
       record {
@@ -456,20 +500,25 @@ module _ {links owners heads : List ℕ} {mark : ℕ} (held : ℕ → ℕ) (firs
 
       stays : (q : ℕ) → with held first size q ≡ 0 → getD links q 0 ≡ getD (set links′ first (headOf heads size)) q 0
       stays q h =
-          sym (getD-set-other links′ first q (headOf heads size) 0 (λ e. omega (arith, inSlab-yes first size q (omega arith) (omega arith))) ∙ kept q h)
+          sym (getD-set-other links′ first q (headOf heads size) 0 (inSlab-apart first size q some (omega arith)) ∙ kept q h)
 
       old : (i : ℕ) → i < length heads → Chain (λ q. getD (set links′ first (headOf heads size)) q 0) (getD heads i 0) (s .chains i)
       old i l = chain-kept _ _ (getD heads i 0) (s .chains i) (λ q h. stays q (start-unheld s i q l h)) (s .chained i l)
 
-      chain : (i : ℕ) → i < length heads → Dec (i ≡ size - 1) → Chain (λ q. getD (set links′ first (headOf heads size)) q 0) (getD (set heads (size - 1) (first + 1)) i 0) (more i)
-      chain i l (yes e) = rw (e, getD-set-same heads (size - 1) (first + 1) 0 (omega arith), swapped-here) (omega arith, rw (getD-set-same links′ first (headOf heads size) 0 (omega (arith, fits))) (old (size - 1) (omega arith)))
-      chain i l (no d) = rw (getD-set-other heads (size - 1) i (first + 1) 0 d, swapped-other (s .chains) (size - 1) (first ∷ s .chains (size - 1)) i d) (old i l)
+      chain : (i : ℕ) → i < length heads → Dec (i ≡ size - 1)
+          → Chain (λ q. getD (set links′ first (headOf heads size)) q 0) (getD (set heads (size - 1) (first + 1)) i 0) (more i)
+      chain i l (yes e) =
+          rw (e, getD-set-same heads (size - 1) (first + 1) 0 (omega arith), swapped-here)
+          (omega arith, rw (getD-set-same links′ first (headOf heads size) 0 (omega (arith, fits))) (old (size - 1) (omega arith)))
+      chain i l (no d) =
+          rw (getD-set-other heads (size - 1) i (first + 1) 0 d, more-one .others i d) (old i l)
 
       nobody : (p : ℕ) → held p ≡ 0 → Dec (1 ≤ inSlab first size p) → getD owners′ p 0 ≡ 0
       nobody p h (yes k) = inSlab-each (λ q. getD owners′ q 0 ≡ 0) first size bared p k
       nobody p h (no k) = others p (omega arith) ∙ s .bare p (omega arith)
 
-      loosed : (p : ℕ) → held p ≡ 0 → startsAt (s .chains) (length heads) p ≡ 0 → Dec (1 ≤ inSlab first size p) → getD links′ p 0 ≡ 0
+      loosed : (p : ℕ) → held p ≡ 0 → startsAt (s .chains) (length heads) p ≡ 0 → Dec (1 ≤ inSlab first size p)
+          → getD links′ p 0 ≡ 0
       loosed p h e (yes k) = inSlab-each (λ q. getD links′ q 0 ≡ 0) first size cut p k
       loosed p h e (no k) = kept p (omega arith) ∙ s .loose p (omega arith) e
 
@@ -477,3 +526,14 @@ module _ {links owners heads : List ℕ} {mark : ℕ} (held : ℕ → ℕ) (firs
       cleared p h k =
           getD-set-other links′ first p (headOf heads size) 0 (λ e. omega (arith, more-starts p, isPort-yes first p (omega arith))) ∙
           loosed p h (omega (arith, more-starts p)) (decLe 1 (inSlab first size p))
+
+  -- Freeing a slab gives it back.
+  pub free-returns : Wiring owners links (with held first size)
+      → Slabs (freedLinks links heads first size) (freedOwners owners first size) (freedHeads heads first size) mark held
+  unfolding freedLinks freedOwners freedHeads
+  free-returns wiring =
+      free-returns-core (cutRun links first size) (filled owners first size 0) (cutRun-length links first size)
+      (filled-length owners first size 0) (cutRun-in links first size)
+      (cutRun-still owners links (with held first size) wiring (s .bare) first size (λ i l. omega (arith, inSlab-at first size i l)))
+      (λ i l. filled-in owners first size 0 i l (omega (arith, end-of-slab held first size s some, s .room, s .equal)))
+      (λ p out. filled-apart owners first size 0 p (λ i l e. omega (arith, inSlab-yes first size p (omega arith) (omega arith))))
