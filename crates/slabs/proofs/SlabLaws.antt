@@ -12,7 +12,7 @@ use lib.Dec.{eqb, leb, ltb}
 use borrow.Author.Tests.{eq-eqb, ne-eqb, lt-ltb, le-ltb, le-leb, lt-leb, leb-true}
 use Rattle.slabs.specs.Choice.{pick}
 use Rattle.slabs.specs.Sums.{sum, sumOf}
-use Rattle.slabs.specs.Links.{Inside, Mate, Wiring, cutRun}
+use Rattle.slabs.specs.Links.{Inside, Wiring, cutRun}
 use Rattle.slabs.specs.Slab.{headOf, atHand, takenFirst, takenLinks, takenHeads, takenMark, filled, freedLinks, freedOwners, freedHeads}
 use Rattle.slabs.specs.Slabs.{inSlab, isPort, Chain, freeAt, startsAt, Slabs, with}
 use Rattle.slabs.proofs.Shapes.{cutRun-length, filled-length}
