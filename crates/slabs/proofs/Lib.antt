@@ -1,2 +1,7 @@
 -- The laws that the proofs of this crate, and of the crates above it, cite.
 pub mod Shapes
+pub mod SumLaws
+pub mod EntryLaws
+pub mod FillLaws
+pub mod WireLaws
+pub mod SlabLaws
