@@ -11,8 +11,10 @@ use crate::text::{call_line, run_line, session_line};
 pub struct Random(u64);
 
 impl Random {
+    /// Mixed once: the plain seeds 1, 2, 3 would give one stream, shifted.
     pub fn new(seed: u32) -> Self {
-        Random(u64::from(seed).wrapping_mul(0x9E37_79B9_7F4A_7C15))
+        let mixed = Random(u64::from(seed)).next();
+        Random(mixed)
     }
     fn next(&mut self) -> u64 {
         self.0 = self.0.wrapping_add(0x9E37_79B9_7F4A_7C15);
@@ -53,13 +55,14 @@ struct Lean {
 
 impl Lean {
     fn new(random: &mut Random, room: Room) -> Self {
-        // Wide nodes now and then in a wide store, so that it fills.
-        let widest = match random.below(4) {
-            0 if room.ports >= 1024 => room.ports / 64,
-            1 => 12,
-            _ => 5,
-        };
-        Lean { spread: 1 + random.below(widest.min(room.heads)), growing: random.one_in(3) }
+        let widest = if random.one_in(4) { 12 } else { 5 };
+        let spread = 1 + random.below(widest.min(room.heads));
+        let growing = random.one_in(3);
+        // Every other session in a wide store has wide nodes, so that it fills.
+        if room.ports >= 1024 && random.one_in(2) {
+            return Lean { spread: room.ports / 64, growing };
+        }
+        Lean { spread, growing }
     }
 }
 
