@@ -94,10 +94,8 @@ fn one(
             Ok(false)
         }
         Step::Panic { text, damaged } => {
-            let wanted = engine.documents_refusal(call).filter(|_| !text.starts_with("oracle:"));
-            let wanted = wanted.ok_or(format!("the Rust panics: {text}; no 1 or 2 for it"))?;
-            same(place, &format!("the Rust panics: {text}; document 01"), &wanted, other)?;
-            add(&mut counts.panics, (call.n, wanted.code));
+            let code = panicked(engine, place, said, other, &text)?;
+            add(&mut counts.panics, (call.n, code));
             if past_panics && !damaged {
                 return Ok(false);
             }
@@ -105,6 +103,21 @@ fn one(
             Ok(true)
         }
     }
+}
+
+/// The code that document 01 gives where the Rust panics; the other side has it.
+fn panicked(
+    engine: &Engine,
+    place: u32,
+    said: &Said,
+    other: &Answer,
+    text: &str,
+) -> Result<u32, String> {
+    // The oracle's own complaints are no panics of the Rust.
+    let wanted = engine.documents_refusal(said.call).filter(|_| !text.starts_with("oracle:"));
+    let wanted = wanted.ok_or(format!("the Rust panics: {text}; document 01 has no 1 or 2"))?;
+    same(place, &format!("the Rust panics: {text}; document 01"), &wanted, other)?;
+    Ok(wanted.code)
 }
 
 fn same(place: u32, whose: &str, wanted: &Answer, other: &Answer) -> Result<(), String> {
@@ -136,8 +149,8 @@ impl fmt::Display for Counts {
                 writeln!(f, "\tcall {n}\t{second} {x}\t{count}")?;
             }
         }
-        writeln!(f, "sessions that ended where the Rust is not followed\t{}",
-            self.stopped.values().sum::<u64>())?;
+        let stopped: u64 = self.stopped.values().sum();
+        writeln!(f, "sessions that ended where the Rust is not followed\t{stopped}")?;
         for (line, count) in &self.stopped {
             writeln!(f, "\tline {line}\t{count}")?;
         }

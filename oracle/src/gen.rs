@@ -215,7 +215,11 @@ impl<'a> Maker<'a> {
         let ports = std::mem::take(&mut self.ports);
         let (from, to) = if self.random.one_in(5) { (&ports, &ports) } else { (&outs, &ins) };
         let (a, b) = (self.port(from), self.port(to));
-        if self.random.one_in(2) { (a, b, 0) } else { (b, a, 0) }
+        if self.random.one_in(2) {
+            (a, b, 0)
+        } else {
+            (b, a, 0)
+        }
     }
 
     fn port_to_unlink(&mut self) -> u32 {
@@ -228,11 +232,19 @@ impl<'a> Maker<'a> {
         let a = self.node();
         let any = self.random.one_in(2);
         let b = if any { self.random.below(self.engine.node_mark) } else { self.node() };
-        if self.random.one_in(2) { (a, b, 0) } else { (b, a, 0) }
+        if self.random.one_in(2) {
+            (a, b, 0)
+        } else {
+            (b, a, 0)
+        }
     }
 
     fn direction(&mut self) -> u32 {
-        if self.random.one_in(30) { 2 + self.random.below(9) } else { self.random.below(2) }
+        if self.random.one_in(30) {
+            2 + self.random.below(9)
+        } else {
+            self.random.below(2)
+        }
     }
 
     fn offset(&mut self) -> u32 {

@@ -26,7 +26,11 @@ impl Args {
     fn value(&mut self, name: &str) -> Result<Option<String>, String> {
         let Some(at) = self.0.iter().position(|w| w == name) else { return Ok(None) };
         self.0.remove(at);
-        if at < self.0.len() { Ok(Some(self.0.remove(at))) } else { Err(USAGE.into()) }
+        if at < self.0.len() {
+            Ok(Some(self.0.remove(at)))
+        } else {
+            Err(USAGE.into())
+        }
     }
 
     fn number(&mut self, name: &str, or: u32) -> Result<u32, String> {
@@ -70,7 +74,10 @@ fn run() -> Result<bool, String> {
         "drive" => {
             let (transcript, raw) = (args.flag("--transcript"), args.flag("--raw"));
             let sessions = args.sessions()?;
-            print(|out| Ok(sessions.iter().for_each(|s| drive(s, transcript, raw, out))))?;
+            print(|out| {
+                sessions.iter().for_each(|session| drive(session, transcript, raw, out));
+                Ok(())
+            })?;
             Ok(true)
         }
         "compare" => {
@@ -151,8 +158,10 @@ fn step_lines(place: u32, step: Step) -> (String, bool) {
     match step {
         Step::LeftOut(answer) | Step::Rust(answer) => (text::answer_lines(place, &answer), false),
         Step::NotFollowed(line) => (format!("X\t{place}\tline {line}\n"), true),
-        Step::Panic { text, damaged: false } => (format!("P\t{place}\t{text}\n"), false),
-        Step::Panic { text, damaged: true } => (format!("P\t{place}\t{text}\nX\t{place}\tdamaged\n"), true),
+        Step::Panic { text, damaged } => {
+            let end = if damaged { format!("X\t{place}\tdamaged\n") } else { String::new() };
+            (format!("P\t{place}\t{text}\n{end}"), damaged)
+        }
     }
 }
 

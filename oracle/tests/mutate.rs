@@ -62,7 +62,10 @@ fn every_change_is_seen() {
     for _ in 0..6 {
         let mut lines = answered(&session(&mut random, plan));
         assert!(agrees(&lines));
-        for i in (0..lines.len()).filter(|i| lines[*i].starts_with(['A', 'R'])).collect::<Vec<_>>() {
+        for i in 0..lines.len() {
+            if !lines[i].starts_with(['A', 'R']) {
+                continue;
+            }
             let right = lines.remove(i);
             assert!(!agrees(&lines), "left out: {right}");
             lines.insert(i, right.clone());
@@ -71,7 +74,8 @@ fn every_change_is_seen() {
                 assert!(!agrees(&lines), "{right} as {}", lines[i]);
             }
             lines[i] = right;
-            if lines[i - 1].starts_with('R') && lines[i].starts_with('R') && lines[i - 1] != lines[i] {
+            let two_records = lines[i - 1].starts_with('R') && lines[i].starts_with('R');
+            if two_records && lines[i - 1] != lines[i] {
                 lines.swap(i - 1, i);
                 assert!(!agrees(&lines), "order of {}", lines[i]);
                 lines.swap(i - 1, i);
