@@ -1,0 +1,2 @@
+-- Every call as a definition on values.
+pub mod Call

@@ -1,0 +1,2 @@
+-- What a sound store is.
+pub mod Sound
