@@ -4,3 +4,4 @@ pub mod Moves
 pub mod Resize
 pub mod Compact
 pub mod Room
+pub mod Packing

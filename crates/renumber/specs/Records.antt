@@ -2,6 +2,7 @@
 use Prim.Native.Nat.{ℕ, suc, zero, _+_, _*_}
 use mathlib.Core.List.{List, [], _∷_, _++_}
 use lib.ListN.{set}
+use Rattle.renumber.specs.declared.log.LogPlace.{LogPlace}
 
 -- the words of a record
 abbrev pub recordWidth : ℕ
@@ -25,6 +26,10 @@ setRecord log at place r =
 unfoldable pub logged : List ℕ → ℕ → ℕ → List Rec → List ℕ
 logged log at place [] = log
 logged log at place (r ∷ rs) = logged (setRecord log at place r) (at + 1) place rs
+
+-- so many records later
+abbrev pub later : LogPlace → ℕ → LogPlace
+later to records = record { at = to .at + records; place = to .place }
 
 -- f 0, f 1, .., f (n - 1)
 unfoldable pub listed : (ℕ → Rec) → ℕ → List Rec

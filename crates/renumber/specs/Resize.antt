@@ -20,10 +20,14 @@ use Rattle.edits.specs.declared.answer.Answer.the-variants.{Done, NoNode, TooMa
 use Rattle.renumber.specs.declared.moves.Run.{Run}
 use Rattle.renumber.specs.declared.resize.Change.{Change}
 
--- 1, doubled k times but never once it is n or more
+-- doubled, unless it is n or more
+unfoldable pub grownOnce : ℕ → ℕ → ℕ
+grownOnce n size = pick (ltb size n) (size * 2) size
+
+-- 1, doubled so k times
 unfoldable pub grown : ℕ → ℕ → ℕ
 grown n zero = 1
-grown n (suc k) = pick (ltb (grown n k) n) (grown n k * 2) (grown n k)
+grown n (suc k) = grownOnce n (grown n k)
 
 -- the smallest power of two not below n, and 1 for 0. No total is over 2 to the 15th
 abbrev pub slabSize : ℕ → ℕ
@@ -141,31 +145,35 @@ resizedInPlace s ch =
       counters = recounted (s .counters) (s .links) ch;
     }
 
--- the size of the new slab, and where it starts
+-- the size of the new slab
 abbrev pub newSize : Change → ℕ
 newSize ch = slabSize (ch .inlets + ch .outlets)
 
-abbrev pub newStart : Store → Change → ℕ
-newStart s ch = takenFirst (s .heads) (s .counters .portmark) (newSize ch)
+-- the link words once the kept ports are moved into a slab that starts at first
+unfoldable pub movedInto : List ℕ → Change → ℕ → List ℕ
+movedInto links ch first = movedRun (movedRun links (inletsInto ch first) (inletsKept ch)) (outletsInto ch first) (outletsKept ch)
 
--- the link words once the removed ports are cut, the new slab is taken and the kept ports are moved
-unfoldable pub movedKept : Store → Change → List ℕ
-movedKept s ch =
-    let taken : List ℕ = takenLinks (cutRemoved (s .links) ch) (s .heads) (newSize ch) in
-    movedRun (movedRun taken (inletsInto ch (newStart s ch)) (inletsKept ch)) (outletsInto ch (newStart s ch)) (outletsKept ch)
+-- from link words in which the removed ports are cut: the new slab is taken, the kept ports move, and then the old slab, where there is
+-- one, is freed
+unfoldable pub reallocatedLinks : List ℕ → List ℕ → ℕ → Change → List ℕ
+reallocatedLinks links heads mark ch =
+    removedLinks
+    (movedInto (takenLinks links heads (newSize ch)) ch (takenFirst heads mark (newSize ch)))
+    (takenHeads links heads (newSize ch))
+    (ch .meta)
 
--- the head words once the new slab is taken
-abbrev pub takenHeadsFor : Store → Change → List ℕ
-takenHeadsFor s ch = takenHeads (cutRemoved (s .links) ch) (s .heads) (newSize ch)
+unfoldable pub reallocatedRecords : List ℕ → ℕ → Change → List Rec
+reallocatedRecords heads mark ch =
+    movedRecords (inletsInto ch (takenFirst heads mark (newSize ch))) ++ movedRecords (outletsInto ch (takenFirst heads mark (newSize ch)))
 
--- the old slab, where there is one, is freed after the move
 unfoldable pub resizedInto : Store → Change → Store
 resizedInto s ch =
+    let first : ℕ = takenFirst (s .heads) (s .counters .portmark) (newSize ch) in
     record {
-      slots = changedSlots (s .slots) ch (newStart s ch) (newSize ch);
-      links = removedLinks (movedKept s ch) (takenHeadsFor s ch) (ch .meta);
-      owners = removedOwners (changedOwners (s .owners) ch (newStart s ch)) (ch .meta);
-      heads = removedHeads (takenHeadsFor s ch) (ch .meta);
+      slots = changedSlots (s .slots) ch first (newSize ch);
+      links = reallocatedLinks (cutRemoved (s .links) ch) (s .heads) (s .counters .portmark) ch;
+      owners = removedOwners (changedOwners (s .owners) ch first) (ch .meta);
+      heads = removedHeads (takenHeads (cutRemoved (s .links) ch) (s .heads) (newSize ch)) (ch .meta);
       counters = takenCounters (s .heads) (recounted (s .counters) (s .links) ch) (newSize ch);
     }
 
@@ -175,4 +183,4 @@ resized s ch = pick (isInPlace ch) (resizedInPlace s ch) (resizedInto s ch)
 unfoldable pub resizeRecords : Store → Change → List Rec
 resizeRecords s ch =
     cutRecords (s .links) ch
-    ++ pick (isInPlace ch) (movedRecords (outletRun ch)) (movedRecords (inletsInto ch (newStart s ch)) ++ movedRecords (outletsInto ch (newStart s ch)))
+    ++ pick (isInPlace ch) (movedRecords (outletRun ch)) (reallocatedRecords (s .heads) (s .counters .portmark) ch)

@@ -1,4 +1,12 @@
 // Resize, call 3: in place, or into a new slab.
+ghost use mathlib.Core.Path.{_≡_};
+ghost use Prim.Native.Nat.{_+_, _*_, _≤_, _<_, min};
+ghost use lib.ListN.{length};
+ghost use Rattle.slabs.specs.NodeEntry.{width};
+ghost use Rattle.edits.specs.Store.{storeOf};
+ghost use Rattle.edits.specs.Fit.{Fit, SlotFits, StoreIs, SlotsFit};
+ghost use Rattle.renumber.specs.Resize.{grownOnce, slabSize, isIdle, isInPlace, inletsKept, outletsKept, inletsRemoved, outletsRemoved, recordsNeeded, logAnswer, changeAnswer, resizeAnswer, changedSlots, changedOwners, resized};
+ghost use Rattle.renumber.specs.Room.{SmallChange, CanChange, CutRemoved, CanCutRemoved, CanShift, Shifted, CanMoveKept, MovedKept, CanReallocate, Reallocated, Resized};
 use crate::log::LogPlace;
 use crate::moves;
 use crate::moves::Run;
@@ -18,61 +26,87 @@ pub struct Change {
     pub outlets: u32,
 }
 
+// Twice the size, unless it is n or more.
+fn grow(size: u32, n: u32) -> u32
+    requires { ⌜ (size < 65536) × (n ≤ 65536) ⌝ }
+    ensures { λ r. ⌜ r ≡ grownOnce n size ⌝ }
+{
+    if size < n { size * 2 } else { size }
+}
+
 // The smallest power of two not below n, and 1 for 0.
-pub fn slab_size(n: u32) -> u32 {
+pub fn slab_size(n: u32) -> u32
+    requires { ⌜ n ≤ 32768 ⌝ }
+    ensures { λ r. ⌜ r ≡ slabSize n ⌝ }
+{
     let mut size: u32 = 1;
-    while size < n {
-        size = size * 2;
+    let mut i: u32 = 0;
+    while i < 15 {
+        size = grow(size, n);
+        i += 1;
     }
     size
 }
 
 // The smaller of two numbers.
-fn least(a: u32, b: u32) -> u32 {
+fn least(a: u32, b: u32) -> u32
+    ensures { λ r. ⌜ r ≡ min a b ⌝ }
+{
     if a < b { a } else { b }
 }
 
 impl Change {
     // Whether the step has these counts already.
-    pub fn is_idle(self) -> bool {
+    pub fn is_idle(self) -> bool
+        ensures { λ r. ⌜ r ≡ isIdle self ⌝ }
+    {
         if self.meta.inlets == self.inlets {
-            self.meta.outlets == self.outlets
-        } else {
-            false
+            return self.meta.outlets == self.outlets;
         }
+        false
     }
 
     // Whether the step gets these counts without a new slab.
-    fn is_in_place(self) -> bool {
+    fn is_in_place(self) -> bool
+        requires { ⌜ SmallChange self ⌝ }
+        ensures { λ r. ⌜ r ≡ isInPlace self ⌝ }
+    {
         let total = self.inlets + self.outlets;
         if total == 0 {
-            false
-        } else {
-            total < self.meta.capacity
+            return false;
         }
+        total < self.meta.capacity
     }
 
-    fn inlets_kept(self) -> u32 {
+    fn inlets_kept(self) -> u32
+        ensures { λ r. ⌜ r ≡ inletsKept self ⌝ }
+    {
         least(self.meta.inlets, self.inlets)
     }
 
-    fn outlets_kept(self) -> u32 {
+    fn outlets_kept(self) -> u32
+        ensures { λ r. ⌜ r ≡ outletsKept self ⌝ }
+    {
         least(self.meta.outlets, self.outlets)
     }
 
-    fn inlets_removed(self) -> u32 {
+    fn inlets_removed(self) -> u32
+        ensures { λ r. ⌜ r ≡ inletsRemoved self ⌝ }
+    {
         less(self.meta.inlets, self.inlets)
     }
 
-    fn outlets_removed(self) -> u32 {
+    fn outlets_removed(self) -> u32
+        ensures { λ r. ⌜ r ≡ outletsRemoved self ⌝ }
+    {
         less(self.meta.outlets, self.outlets)
     }
 
     // How many records the change writes.
-    fn records(self) -> u32 {
-        if self.is_idle() {
-            return 0;
-        }
+    fn records(self) -> u32
+        requires { ⌜ SmallChange self ⌝ }
+        ensures { λ r. ⌜ r ≡ recordsNeeded self ⌝ }
+    {
         if self.is_in_place() {
             return self.inlets_removed() + self.meta.outlets;
         }
@@ -80,29 +114,77 @@ impl Change {
     }
 }
 
-// What call 3 answers for a live step, where `left` records remain in the log.
-fn change_answer(links: &[u32], heads: &[u32], mark: u32, left: usize, change: Change) -> Answer {
-    if change.is_idle() {
-        return Answer::Done(0, 0, 0);
-    }
-    if !change.is_in_place() {
-        let size = slab_size(change.inlets + change.outlets);
-        if size as usize > heads.len() {
-            return Answer::SlabTooLarge;
-        }
-        if !slabs::slab::at_hand(heads, mark, links.len(), size) {
-            return Answer::NoSlab;
-        }
-    }
+// 7 where fewer records remain than the change writes.
+fn log_answer(left: usize, change: Change) -> Answer
+    requires { ⌜ SmallChange change ⌝ }
+    ensures { λ r. ⌜ r ≡ logAnswer left change ⌝ }
+{
     let records = change.records();
-    if records as usize > left {
+    if left < records as usize {
         return Answer::LogFull;
     }
     Answer::Done(records, 0, 0)
 }
 
+// What call 3 answers for a live step, where `left` records remain in the log. `room` is the length of the port tables.
+fn change_answer(room: usize, heads: &[u32], mark: u32, left: usize, change: Change) -> Answer
+    requires { ⌜ SmallChange change ⌝ }
+    ensures { λ r. ⌜ r ≡ changeAnswer room (now (heads .entry)) mark left change ⌝ }
+{
+    if change.is_idle() {
+        return Answer::Done(0, 0, 0);
+    }
+    if change.is_in_place() {
+        return log_answer(left, change);
+    }
+    let size = slab_size(change.inlets + change.outlets);
+    if heads.len() < size as usize {
+        return Answer::SlabTooLarge;
+    }
+    if !slabs::slab::at_hand(heads, mark, room, size) {
+        return Answer::NoSlab;
+    }
+    log_answer(left, change)
+}
+
+// What call 3 answers.
+pub fn resize_answer(
+    slots: &[u32],
+    room: usize,
+    heads: &[u32],
+    counters: Counters,
+    left: usize,
+    node: u32,
+    inlets: u32,
+    outlets: u32,
+) -> Answer
+    requires { ⌜ (width * counters .nodemark ≤ length (now slots)) × SlotsFit (now slots) (counters .nodemark) 32768 1048576 ⌝ }
+    ensures { λ r. ⌜ r ≡ resizeAnswer (now (slots .entry)) room (now (heads .entry)) counters left node inlets outlets ⌝ }
+{
+    if MOST < inlets {
+        return Answer::TooManyPorts;
+    }
+    if MOST < outlets {
+        return Answer::TooManyPorts;
+    }
+    let entry = node_at(slots, counters.nodemark, node);
+    let NodeEntry::Node(meta) = entry else {
+        return Answer::NoNode(node);
+    };
+    let change = Change {
+        node,
+        meta,
+        inlets,
+        outlets,
+    };
+    change_answer(room, heads, counters.portmark, left, change)
+}
+
 // Cuts the removed inlets, then the removed outlets, with their records. Says how many wires went.
-fn cut_removed(links: &mut [u32], log: &mut [u32], to: LogPlace, change: Change) -> u32 {
+fn cut_removed(links: &mut [u32], log: &mut [u32], to: LogPlace, change: Change) -> u32
+    requires { ⌜ CanCutRemoved (now links) (now log) to change ⌝ }
+    ensures { λ r. ⌜ CutRemoved (now (links .entry)) (now (log .entry)) to change (now (links .exit)) (now (log .exit)) r ⌝ }
+{
     let first = change.meta.first + change.inlets_kept();
     let fewer = change.inlets_removed();
     let wires = moves::remove_ports(links, log, to, first, fewer);
@@ -111,7 +193,10 @@ fn cut_removed(links: &mut [u32], log: &mut [u32], to: LogPlace, change: Change)
 }
 
 // Writes the owner words of the changed step from `first` on.
-fn own_ports(owners: &mut [u32], change: Change, first: u32) {
+fn own_ports(owners: &mut [u32], change: Change, first: u32)
+    requires { ⌜ (change .node < 65536) × (first + change .inlets + change .outlets ≤ length (now owners)) ⌝ }
+    ensures { λ _. ⌜ now (owners .exit) ≡ changedOwners (now (owners .entry)) change first ⌝ }
+{
     slabs::slab::write_owners(
         owners,
         change.node,
@@ -122,7 +207,10 @@ fn own_ports(owners: &mut [u32], change: Change, first: u32) {
 }
 
 // Writes the slot of the changed step.
-fn write_change(slots: &mut [u32], change: Change, first: u32, capacity: u32) {
+fn write_change(slots: &mut [u32], change: Change, first: u32, capacity: u32)
+    requires { ⌜ (width * change .node + width ≤ length (now slots)) × (change .inlets ≤ 16384) ⌝ }
+    ensures { λ _. ⌜ now (slots .exit) ≡ changedSlots (now (slots .entry)) change first capacity ⌝ }
+{
     let meta = NodeMeta {
         first,
         inlets: change.inlets,
@@ -134,14 +222,10 @@ fn write_change(slots: &mut [u32], change: Change, first: u32, capacity: u32) {
 
 // In place: the kept outlets move, from the low end up where inlets fall, else from the high end down. The ports of the old
 // counts that are left over are nobody's.
-fn resize_in_place(
-    slots: &mut [u32],
-    links: &mut [u32],
-    owners: &mut [u32],
-    log: &mut [u32],
-    to: LogPlace,
-    change: Change,
-) {
+fn shift(links: &mut [u32], owners: &mut [u32], log: &mut [u32], to: LogPlace, change: Change)
+    requires { ⌜ CanShift (now links) (now owners) (now log) to change ⌝ }
+    ensures { λ _. ⌜ Shifted (now (links .entry)) (now (owners .entry)) (now (log .entry)) to change (now (links .exit)) (now (owners .exit)) (now (log .exit)) ⌝ }
+{
     let first = change.meta.first;
     let run = Run {
         from: first + change.meta.inlets,
@@ -155,11 +239,13 @@ fn resize_in_place(
     let total = change.inlets + change.outlets;
     let rest = less(change.meta.inlets + change.meta.outlets, total);
     slabs::slab::fill(owners, (first + total) as usize, rest as usize, 0);
-    write_change(slots, change, first, change.meta.capacity);
 }
 
 // Carries the kept inlets, then the kept outlets, to a new slab that starts at `first`, with their records.
-fn move_kept(links: &mut [u32], log: &mut [u32], to: LogPlace, change: Change, first: u32) {
+fn move_kept(links: &mut [u32], log: &mut [u32], to: LogPlace, change: Change, first: u32)
+    requires { ⌜ CanMoveKept (now links) (now log) to change first ⌝ }
+    ensures { λ _. ⌜ MovedKept (now (links .entry)) (now (log .entry)) to change first (now (links .exit)) (now (log .exit)) ⌝ }
+{
     let ins = Run {
         from: change.meta.first,
         to: first,
@@ -179,7 +265,7 @@ fn move_kept(links: &mut [u32], log: &mut [u32], to: LogPlace, change: Change, f
 }
 
 // Into a new slab, which is taken before the old one is freed.
-fn resize_into(
+fn reallocate(
     slots: &mut [u32],
     links: &mut [u32],
     owners: &mut [u32],
@@ -188,7 +274,10 @@ fn resize_into(
     counters: Counters,
     to: LogPlace,
     change: Change,
-) -> Counters {
+) -> Counters
+    requires { ⌜ CanReallocate (now slots) (now links) (now owners) (now heads) (now log) counters to change ⌝ }
+    ensures { λ r. ⌜ Reallocated (now (slots .entry)) (now (links .entry)) (now (owners .entry)) (now (heads .entry)) (now (log .entry)) counters to change (now (slots .exit)) (now (links .exit)) (now (owners .exit)) (now (heads .exit)) (now (log .exit)) r ⌝ }
+{
     let size = slab_size(change.inlets + change.outlets);
     let taken = slabs::slab::take_slab(links, heads, counters, size);
     let first = taken.first;
@@ -217,45 +306,21 @@ pub fn resize(
     counters: Counters,
     to: LogPlace,
     change: Change,
-) -> Counters {
+) -> Counters
+    requires { ⌜ Fit (storeOf (now slots) (now links) (now owners) (now heads) counters) × CanChange (storeOf (now slots) (now links) (now owners) (now heads) counters) (now log) to change ⌝ }
+    ensures { λ r. ⌜ Resized (storeOf (now (slots .entry)) (now (links .entry)) (now (owners .entry)) (now (heads .entry)) counters) (now (log .entry)) to change (now (slots .exit)) (now (links .exit)) (now (owners .exit)) (now (heads .exit)) (now (log .exit)) r ⌝ }
+{
     let wires = cut_removed(links, log, to, change);
-    let removed = change.inlets_removed() + change.outlets_removed();
-    let next = to.past(removed);
+    let next = to.past(change.inlets_removed() + change.outlets_removed());
     let before = change.meta.inlets + change.meta.outlets;
     let after = change.inlets + change.outlets;
     let cut = counters
         .links_uncounted(wires)
         .ports_recounted(before, after);
     if change.is_in_place() {
-        resize_in_place(slots, links, owners, log, next, change);
+        shift(links, owners, log, next, change);
+        write_change(slots, change, change.meta.first, change.meta.capacity);
         return cut;
     }
-    resize_into(slots, links, owners, heads, log, cut, next, change)
-}
-
-// What call 3 answers.
-pub fn resize_answer(
-    slots: &[u32],
-    links: &[u32],
-    heads: &[u32],
-    counters: Counters,
-    left: usize,
-    node: u32,
-    inlets: u32,
-    outlets: u32,
-) -> Answer {
-    if inlets > MOST || outlets > MOST {
-        return Answer::TooManyPorts;
-    }
-    let entry = node_at(slots, counters.nodemark, node);
-    let NodeEntry::Node(meta) = entry else {
-        return Answer::NoNode(node);
-    };
-    let change = Change {
-        node,
-        meta,
-        inlets,
-        outlets,
-    };
-    change_answer(links, heads, counters.portmark, left, change)
+    reallocate(slots, links, owners, heads, log, cut, next, change)
 }
