@@ -1,22 +1,24 @@
 -- A call's four words to its answer (document 01, "The calls"): the answer, the store after it, and its records. A refused call leaves
 -- the store as it was, and has no records.
-use Prim.Native.Nat.{ℕ, _+_, _-_, _/_}
+use Prim.Native.Nat.{ℕ, _+_, _-_, _/_, _≤_, _<_}
 use mathlib.Core.Path.{_≡_}
 use mathlib.Core.List.{List, []}
 use mathlib.Core.Bool.{Bool, true, false}
 use lib.ListN.{length}
 use lib.Dec.{eqb}
 use Rattle.slabs.specs.Choice.{pick}
+use Rattle.slabs.specs.NodeEntry.{nodeEntry}
 use Rattle.slabs.specs.Links.{cutAt, wiredAt}
 use Rattle.slabs.specs.Counters.{linkCounted, linksUncounted}
 use Rattle.slabs.specs.declared.counters.Counters.{Counters}
+use Rattle.slabs.specs.declared.node_entry.NodeEntry.the-variants.{Node}
 use Rattle.edits.specs.Store.{Store, nodeAt, onNode}
 use Rattle.edits.specs.Answer.{isDone}
 use Rattle.edits.specs.Questions.{askNode, askPort, askOffset, askLink, askCounts}
 use Rattle.edits.specs.Linking.{linkAnswer, joined, unlinkAnswer}
-use Rattle.edits.specs.Steps.{addAnswer, added, removeAnswer, removed}
+use Rattle.edits.specs.Steps.{most, addAnswer, added, removeAnswer, removed}
 use Rattle.renumber.specs.Records.{Rec, logged, recordWidth}
-use Rattle.renumber.specs.Resize.{resizeAnswer, isIdle, resized, resizeRecords}
+use Rattle.renumber.specs.Resize.{resizeAnswer, changeAnswer, isIdle, resized, resizeRecords}
 use Rattle.renumber.specs.Compact.{compactAnswer, nodesCompacted, nodeRecords, portsCompacted, portRecords}
 use Rattle.edits.specs.Clear.{cleared}
 use Rattle.edits.specs.Swap.{swapAnswer, swapped}
@@ -49,6 +51,15 @@ removeCall s node =
 -- a resize of a live step to the counts that it has changes nothing
 unfoldable pub changeCall : Store → Change → Answer → After
 changeCall s ch answer = pick (isIdle ch) (decided answer s s []) (decided answer s (resized s ch) (resizeRecords s ch))
+
+-- the change is of a live step, its counts differ, and this is its answer
+pub record CanDecide (s : Store) (log : List ℕ) (to : LogPlace) (ch : Change) (answer : Answer) : Type 0 where
+  pub below : ch .node < s .counters .nodemark
+  pub is : nodeEntry (s .slots) (ch .node) ≡ Node (ch .meta)
+  pub few-inlets : ch .inlets ≤ most
+  pub few-outlets : ch .outlets ≤ most
+  pub changes : isIdle ch ≡ false
+  pub says : answer ≡ changeAnswer (length (s .links)) (s .heads) (s .counters .portmark) (length log / recordWidth - to .at) ch
 
 unfoldable pub resizeCall : Store → ℕ → ℕ → ℕ → ℕ → After
 resizeCall s left node inlets outlets =

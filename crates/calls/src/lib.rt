@@ -1,4 +1,10 @@
-// The dispatch: a call's four words to its answer.
+// The dispatch: a call's four words to its answer. Every call is lent the whole memory, and leaves what its definition says.
+ghost use mathlib.Core.Path.{_≡_};
+ghost use Rattle.edits.specs.Store.{storeOf};
+ghost use Rattle.edits.specs.Fit.{Fit};
+ghost use Rattle.renumber.specs.Room.{LogFits};
+ghost use Rattle.calls.specs.Call.{remaining, Became, clearCall, addCall, removeCall, changeCall, CanDecide, resizeCall, linkCall, unlinkCall, swapCall, compactNodesCall, compactPortsCall, question, callOf};
+
 use edits::answer::Answer;
 use edits::answer::is_done;
 use edits::clear;
@@ -29,7 +35,9 @@ pub struct Outcome {
     pub to: LogPlace,
 }
 
-fn give(answer: Answer, counters: Counters, to: LogPlace) -> Outcome {
+fn give(answer: Answer, counters: Counters, to: LogPlace) -> Outcome
+    ensures { λ r. ⌜ (r .answer ≡ answer) × (r .counters ≡ counters) × (r .to ≡ to) ⌝ }
+{
     Outcome {
         answer,
         counters,
@@ -38,20 +46,46 @@ fn give(answer: Answer, counters: Counters, to: LogPlace) -> Outcome {
 }
 
 // The records that remain in the log.
-fn left(log: &[u32], to: LogPlace) -> usize {
+fn left(log: &[u32], to: LogPlace) -> usize
+    requires { ⌜ LogFits (now log) to ⌝ }
+    ensures { λ r. ⌜ r ≡ remaining (now (log .entry)) to ⌝ }
+{
     log.len() / renumber::log::RECORD - to.at
 }
 
+// Call 0.
+fn call_clear(
+    slots: &mut [u32],
+    links: &mut [u32],
+    owners: &mut [u32],
+    heads: &mut [u32],
+    log: &mut [u32],
+    counters: Counters,
+    to: LogPlace,
+    call: Call,
+) -> Outcome
+    requires { ⌜ Fit (storeOf (now slots) (now links) (now owners) (now heads) counters) × LogFits (now log) to ⌝ }
+    ensures { λ r. ⌜ Became (clearCall (storeOf (now (slots .entry)) (now (links .entry)) (now (owners .entry)) (now (heads .entry)) counters)) (now (log .entry)) to (now (slots .exit)) (now (links .exit)) (now (owners .exit)) (now (heads .exit)) (now (log .exit)) r ⌝ }
+{
+    let none = clear::clear(slots, links, owners, heads, counters);
+    give(Answer::Done(0, 0, 0), none, to)
+}
+
+// Call 1.
 fn call_add(
     slots: &mut [u32],
     links: &mut [u32],
     owners: &mut [u32],
     heads: &mut [u32],
+    log: &mut [u32],
     counters: Counters,
     to: LogPlace,
     call: Call,
-) -> Outcome {
-    let answer = steps::add_answer(slots, links, heads, counters, call.a, call.b);
+) -> Outcome
+    requires { ⌜ Fit (storeOf (now slots) (now links) (now owners) (now heads) counters) × LogFits (now log) to ⌝ }
+    ensures { λ r. ⌜ Became (addCall (storeOf (now (slots .entry)) (now (links .entry)) (now (owners .entry)) (now (heads .entry)) counters) (call .a) (call .b)) (now (log .entry)) to (now (slots .exit)) (now (links .exit)) (now (owners .exit)) (now (heads .exit)) (now (log .exit)) r ⌝ }
+{
+    let answer = steps::add_answer(slots, links.len(), heads, counters, call.a, call.b);
     if !is_done(answer) {
         return give(answer, counters, to);
     }
@@ -59,23 +93,51 @@ fn call_add(
     give(answer, after, to)
 }
 
+// Call 2.
 fn call_remove(
     slots: &mut [u32],
     links: &mut [u32],
     owners: &mut [u32],
     heads: &mut [u32],
+    log: &mut [u32],
     counters: Counters,
     to: LogPlace,
-    node: u32,
-) -> Outcome {
-    let entry = node_at(slots, counters.nodemark, node);
+    call: Call,
+) -> Outcome
+    requires { ⌜ Fit (storeOf (now slots) (now links) (now owners) (now heads) counters) × LogFits (now log) to ⌝ }
+    ensures { λ r. ⌜ Became (removeCall (storeOf (now (slots .entry)) (now (links .entry)) (now (owners .entry)) (now (heads .entry)) counters) (call .a)) (now (log .entry)) to (now (slots .exit)) (now (links .exit)) (now (owners .exit)) (now (heads .exit)) (now (log .exit)) r ⌝ }
+{
+    let entry = node_at(slots, counters.nodemark, call.a);
     let NodeEntry::Node(meta) = entry else {
-        return give(Answer::NoNode(node), counters, to);
+        return give(Answer::NoNode(call.a), counters, to);
     };
-    let after = steps::remove(slots, links, owners, heads, counters, node, meta);
+    let after = steps::remove(slots, links, owners, heads, counters, call.a, meta);
     give(Answer::Done(0, 0, 0), after, to)
 }
 
+// A resize of a live step whose counts change, with its answer.
+fn call_change(
+    slots: &mut [u32],
+    links: &mut [u32],
+    owners: &mut [u32],
+    heads: &mut [u32],
+    log: &mut [u32],
+    counters: Counters,
+    to: LogPlace,
+    change: Change,
+    answer: Answer,
+) -> Outcome
+    requires { ⌜ Fit (storeOf (now slots) (now links) (now owners) (now heads) counters) × LogFits (now log) to × CanDecide (storeOf (now slots) (now links) (now owners) (now heads) counters) (now log) to change answer ⌝ }
+    ensures { λ r. ⌜ Became (changeCall (storeOf (now (slots .entry)) (now (links .entry)) (now (owners .entry)) (now (heads .entry)) counters) change answer) (now (log .entry)) to (now (slots .exit)) (now (links .exit)) (now (owners .exit)) (now (heads .exit)) (now (log .exit)) r ⌝ }
+{
+    let Answer::Done(records, _, _) = answer else {
+        return give(answer, counters, to);
+    };
+    let after = resize::resize(slots, links, owners, heads, log, counters, to, change);
+    give(answer, after, to.past(records))
+}
+
+// Call 3.
 fn call_resize(
     slots: &mut [u32],
     links: &mut [u32],
@@ -85,12 +147,12 @@ fn call_resize(
     counters: Counters,
     to: LogPlace,
     call: Call,
-) -> Outcome {
+) -> Outcome
+    requires { ⌜ Fit (storeOf (now slots) (now links) (now owners) (now heads) counters) × LogFits (now log) to ⌝ }
+    ensures { λ r. ⌜ Became (resizeCall (storeOf (now (slots .entry)) (now (links .entry)) (now (owners .entry)) (now (heads .entry)) counters) (remaining (now (log .entry)) to) (call .a) (call .b) (call .c)) (now (log .entry)) to (now (slots .exit)) (now (links .exit)) (now (owners .exit)) (now (heads .exit)) (now (log .exit)) r ⌝ }
+{
     let room = left(log, to);
-    let answer = resize::resize_answer(slots, links, heads, counters, room, call.a, call.b, call.c);
-    let Answer::Done(records, _, _) = answer else {
-        return give(answer, counters, to);
-    };
+    let answer = resize::resize_answer(slots, links.len(), heads, counters, room, call.a, call.b, call.c);
     let entry = node_at(slots, counters.nodemark, call.a);
     let NodeEntry::Node(meta) = entry else {
         return give(answer, counters, to);
@@ -104,64 +166,89 @@ fn call_resize(
     if change.is_idle() {
         return give(answer, counters, to);
     }
-    let after = resize::resize(slots, links, owners, heads, log, counters, to, change);
-    give(answer, after, to.past(records))
+    call_change(slots, links, owners, heads, log, counters, to, change, answer)
 }
 
+// Call 4.
 fn call_link(
-    links: &mut [u32],
-    owners: &[u32],
-    counters: Counters,
-    to: LogPlace,
-    a: u32,
-    b: u32,
-) -> Outcome {
-    let answer = linking::link_answer(owners, links, counters.portmark, a, b);
-    if !is_done(answer) {
-        return give(answer, counters, to);
-    }
-    linking::join(links, a, b);
-    give(answer, counters.link_counted(), to)
-}
-
-fn call_unlink(
-    links: &mut [u32],
-    owners: &[u32],
-    counters: Counters,
-    to: LogPlace,
-    port: u32,
-) -> Outcome {
-    let answer = linking::unlink_answer(owners, links, counters.portmark, port);
-    if !is_done(answer) {
-        return give(answer, counters, to);
-    }
-    let wires = slabs::links::cut(links, port as usize);
-    give(answer, counters.links_uncounted(wires), to)
-}
-
-fn call_swap(
     slots: &mut [u32],
+    links: &mut [u32],
     owners: &mut [u32],
-    counters: Counters,
-    to: LogPlace,
-    a: u32,
-    b: u32,
-) -> Outcome {
-    let answer = swap::swap_answer(counters.nodemark, a, b);
-    if !is_done(answer) {
-        return give(answer, counters, to);
-    }
-    let after = swap::swap(slots, owners, counters, a, b);
-    give(answer, after, to)
-}
-
-fn call_compact_nodes(
-    slots: &mut [u32],
-    owners: &mut [u32],
+    heads: &mut [u32],
     log: &mut [u32],
     counters: Counters,
     to: LogPlace,
-) -> Outcome {
+    call: Call,
+) -> Outcome
+    requires { ⌜ Fit (storeOf (now slots) (now links) (now owners) (now heads) counters) × LogFits (now log) to ⌝ }
+    ensures { λ r. ⌜ Became (linkCall (storeOf (now (slots .entry)) (now (links .entry)) (now (owners .entry)) (now (heads .entry)) counters) (call .a) (call .b)) (now (log .entry)) to (now (slots .exit)) (now (links .exit)) (now (owners .exit)) (now (heads .exit)) (now (log .exit)) r ⌝ }
+{
+    let answer = linking::link_answer(owners, links, counters.portmark, call.a, call.b);
+    if !is_done(answer) {
+        return give(answer, counters, to);
+    }
+    linking::join(links, call.a, call.b);
+    give(answer, counters.link_counted(), to)
+}
+
+// Call 5.
+fn call_unlink(
+    slots: &mut [u32],
+    links: &mut [u32],
+    owners: &mut [u32],
+    heads: &mut [u32],
+    log: &mut [u32],
+    counters: Counters,
+    to: LogPlace,
+    call: Call,
+) -> Outcome
+    requires { ⌜ Fit (storeOf (now slots) (now links) (now owners) (now heads) counters) × LogFits (now log) to ⌝ }
+    ensures { λ r. ⌜ Became (unlinkCall (storeOf (now (slots .entry)) (now (links .entry)) (now (owners .entry)) (now (heads .entry)) counters) (call .a)) (now (log .entry)) to (now (slots .exit)) (now (links .exit)) (now (owners .exit)) (now (heads .exit)) (now (log .exit)) r ⌝ }
+{
+    let answer = linking::unlink_answer(owners, links, counters.portmark, call.a);
+    if !is_done(answer) {
+        return give(answer, counters, to);
+    }
+    let wires = slabs::links::cut(links, call.a as usize);
+    give(answer, counters.links_uncounted(wires), to)
+}
+
+// Call 6.
+fn call_swap(
+    slots: &mut [u32],
+    links: &mut [u32],
+    owners: &mut [u32],
+    heads: &mut [u32],
+    log: &mut [u32],
+    counters: Counters,
+    to: LogPlace,
+    call: Call,
+) -> Outcome
+    requires { ⌜ Fit (storeOf (now slots) (now links) (now owners) (now heads) counters) × LogFits (now log) to ⌝ }
+    ensures { λ r. ⌜ Became (swapCall (storeOf (now (slots .entry)) (now (links .entry)) (now (owners .entry)) (now (heads .entry)) counters) (call .a) (call .b)) (now (log .entry)) to (now (slots .exit)) (now (links .exit)) (now (owners .exit)) (now (heads .exit)) (now (log .exit)) r ⌝ }
+{
+    let answer = swap::swap_answer(counters.nodemark, call.a, call.b);
+    if !is_done(answer) {
+        return give(answer, counters, to);
+    }
+    let after = swap::swap(slots, owners, counters, call.a, call.b);
+    give(answer, after, to)
+}
+
+// Call 7.
+fn call_compact_nodes(
+    slots: &mut [u32],
+    links: &mut [u32],
+    owners: &mut [u32],
+    heads: &mut [u32],
+    log: &mut [u32],
+    counters: Counters,
+    to: LogPlace,
+    call: Call,
+) -> Outcome
+    requires { ⌜ Fit (storeOf (now slots) (now links) (now owners) (now heads) counters) × LogFits (now log) to ⌝ }
+    ensures { λ r. ⌜ Became (compactNodesCall (storeOf (now (slots .entry)) (now (links .entry)) (now (owners .entry)) (now (heads .entry)) counters) (remaining (now (log .entry)) to)) (now (log .entry)) to (now (slots .exit)) (now (links .exit)) (now (owners .exit)) (now (heads .exit)) (now (log .exit)) r ⌝ }
+{
     let answer = compact::compact_answer(counters.nodes, left(log, to));
     if !is_done(answer) {
         return give(answer, counters, to);
@@ -170,6 +257,7 @@ fn call_compact_nodes(
     give(answer, after, to.past(counters.nodes))
 }
 
+// Call 8.
 fn call_compact_ports(
     slots: &mut [u32],
     links: &mut [u32],
@@ -178,7 +266,11 @@ fn call_compact_ports(
     log: &mut [u32],
     counters: Counters,
     to: LogPlace,
-) -> Outcome {
+    call: Call,
+) -> Outcome
+    requires { ⌜ Fit (storeOf (now slots) (now links) (now owners) (now heads) counters) × LogFits (now log) to ⌝ }
+    ensures { λ r. ⌜ Became (compactPortsCall (storeOf (now (slots .entry)) (now (links .entry)) (now (owners .entry)) (now (heads .entry)) counters) (remaining (now (log .entry)) to)) (now (log .entry)) to (now (slots .exit)) (now (links .exit)) (now (owners .exit)) (now (heads .exit)) (now (log .exit)) r ⌝ }
+{
     let answer = compact::compact_answer(counters.ports, left(log, to));
     if !is_done(answer) {
         return give(answer, counters, to);
@@ -187,14 +279,11 @@ fn call_compact_ports(
     give(answer, after, to.past(counters.ports))
 }
 
-// The calls that change nothing.
-fn question(
-    slots: &[u32],
-    links: &[u32],
-    owners: &[u32],
-    counters: Counters,
-    call: Call,
-) -> Answer {
+// Calls 9 to 13, which change nothing, and numbers that no call has.
+fn ask(slots: &[u32], links: &[u32], owners: &[u32], heads: &[u32], counters: Counters, call: Call) -> Answer
+    requires { ⌜ Fit (storeOf (now slots) (now links) (now owners) (now heads) counters) ⌝ }
+    ensures { λ r. ⌜ r ≡ question (storeOf (now (slots .entry)) (now (links .entry)) (now (owners .entry)) (now (heads .entry)) counters) call ⌝ }
+{
     let n = call.n;
     match n {
         9 => questions::ask_node(slots, counters.nodemark, call.a),
@@ -206,6 +295,7 @@ fn question(
     }
 }
 
+// Every call.
 pub fn dispatch(
     slots: &mut [u32],
     links: &mut [u32],
@@ -215,21 +305,21 @@ pub fn dispatch(
     counters: Counters,
     to: LogPlace,
     call: Call,
-) -> Outcome {
+) -> Outcome
+    requires { ⌜ Fit (storeOf (now slots) (now links) (now owners) (now heads) counters) × LogFits (now log) to ⌝ }
+    ensures { λ r. ⌜ Became (callOf (storeOf (now (slots .entry)) (now (links .entry)) (now (owners .entry)) (now (heads .entry)) counters) (remaining (now (log .entry)) to) call) (now (log .entry)) to (now (slots .exit)) (now (links .exit)) (now (owners .exit)) (now (heads .exit)) (now (log .exit)) r ⌝ }
+{
     let n = call.n;
     match n {
-        0 => {
-            let none = clear::clear(slots, links, owners, heads);
-            give(Answer::Done(0, 0, 0), none, to)
-        }
-        1 => call_add(slots, links, owners, heads, counters, to, call),
-        2 => call_remove(slots, links, owners, heads, counters, to, call.a),
+        0 => call_clear(slots, links, owners, heads, log, counters, to, call),
+        1 => call_add(slots, links, owners, heads, log, counters, to, call),
+        2 => call_remove(slots, links, owners, heads, log, counters, to, call),
         3 => call_resize(slots, links, owners, heads, log, counters, to, call),
-        4 => call_link(links, owners, counters, to, call.a, call.b),
-        5 => call_unlink(links, owners, counters, to, call.a),
-        6 => call_swap(slots, owners, counters, to, call.a, call.b),
-        7 => call_compact_nodes(slots, owners, log, counters, to),
-        8 => call_compact_ports(slots, links, owners, heads, log, counters, to),
-        _ => give(question(slots, links, owners, counters, call), counters, to),
+        4 => call_link(slots, links, owners, heads, log, counters, to, call),
+        5 => call_unlink(slots, links, owners, heads, log, counters, to, call),
+        6 => call_swap(slots, links, owners, heads, log, counters, to, call),
+        7 => call_compact_nodes(slots, links, owners, heads, log, counters, to, call),
+        8 => call_compact_ports(slots, links, owners, heads, log, counters, to, call),
+        _ => give(ask(slots, links, owners, heads, counters, call), counters, to),
     }
 }
