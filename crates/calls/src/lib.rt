@@ -4,7 +4,6 @@ ghost use Rattle.edits.specs.Store.{storeOf};
 ghost use Rattle.edits.specs.Fit.{Fit};
 ghost use Rattle.renumber.specs.Room.{LogFits};
 ghost use Rattle.calls.specs.Call.{remaining, Became, clearCall, addCall, removeCall, changeCall, CanDecide, resizeCall, linkCall, unlinkCall, swapCall, compactNodesCall, compactPortsCall, question, callOf};
-
 use edits::answer::Answer;
 use edits::answer::is_done;
 use edits::clear;
@@ -152,7 +151,16 @@ fn call_resize(
     ensures { λ r. ⌜ Became (resizeCall (storeOf (now (slots .entry)) (now (links .entry)) (now (owners .entry)) (now (heads .entry)) counters) (remaining (now (log .entry)) to) (call .a) (call .b) (call .c)) (now (log .entry)) to (now (slots .exit)) (now (links .exit)) (now (owners .exit)) (now (heads .exit)) (now (log .exit)) r ⌝ }
 {
     let room = left(log, to);
-    let answer = resize::resize_answer(slots, links.len(), heads, counters, room, call.a, call.b, call.c);
+    let answer = resize::resize_answer(
+        slots,
+        links.len(),
+        heads,
+        counters,
+        room,
+        call.a,
+        call.b,
+        call.c,
+    );
     let entry = node_at(slots, counters.nodemark, call.a);
     let NodeEntry::Node(meta) = entry else {
         return give(answer, counters, to);
@@ -166,7 +174,17 @@ fn call_resize(
     if change.is_idle() {
         return give(answer, counters, to);
     }
-    call_change(slots, links, owners, heads, log, counters, to, change, answer)
+    call_change(
+        slots,
+        links,
+        owners,
+        heads,
+        log,
+        counters,
+        to,
+        change,
+        answer,
+    )
 }
 
 // Call 4.
@@ -280,7 +298,14 @@ fn call_compact_ports(
 }
 
 // Calls 9 to 13, which change nothing, and numbers that no call has.
-fn ask(slots: &[u32], links: &[u32], owners: &[u32], heads: &[u32], counters: Counters, call: Call) -> Answer
+fn ask(
+    slots: &[u32],
+    links: &[u32],
+    owners: &[u32],
+    heads: &[u32],
+    counters: Counters,
+    call: Call,
+) -> Answer
     requires { ⌜ Fit (storeOf (now slots) (now links) (now owners) (now heads) counters) ⌝ }
     ensures { λ r. ⌜ r ≡ question (storeOf (now (slots .entry)) (now (links .entry)) (now (owners .entry)) (now (heads .entry)) counters) call ⌝ }
 {
@@ -320,6 +345,10 @@ pub fn dispatch(
         6 => call_swap(slots, links, owners, heads, log, counters, to, call),
         7 => call_compact_nodes(slots, links, owners, heads, log, counters, to, call),
         8 => call_compact_ports(slots, links, owners, heads, log, counters, to, call),
-        _ => give(ask(slots, links, owners, heads, counters, call), counters, to),
+        _ => give(
+            ask(slots, links, owners, heads, counters, call),
+            counters,
+            to,
+        ),
     }
 }

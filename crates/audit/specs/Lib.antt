@@ -1,0 +1,3 @@
+-- What the audit promises, part by part.
+pub mod Decides
+pub mod Parts
