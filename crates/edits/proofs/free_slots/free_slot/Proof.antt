@@ -24,7 +24,9 @@ same-length c = search needs
 
 returns : tie.Need-returns
 unfolding slotFreed
-returns c = (c .free-slot-moved .ensures, rw (← c .before .before .before .before .before .before .before .set-previous .ensures) (c .before .before .before .write-slot .ensures))
+returns c =
+    let previous = c .before .before .before .before .before .before .before in
+    (c .free-slot-moved .ensures, rw (← previous .set-previous .ensures) (c .before .before .before .write-slot .ensures))
 
 pub free-slot-spec : {M : Type 1} → statement M
 free-slot-spec =

@@ -1,4 +1,4 @@
--- `take_slot` takes the slot that `next_slot` names. Of the free chain that is the head: its third word is the new head, which has no previous.
+-- `take_slot` takes the slot that `next_slot` names; where that is the head of the free chain, its third word is the new head, and the slot there has no previous.
 use borrow.Author.Tests.{eq-eqb, ne-eqb}
 use native.Mathlib.Omega.{arith}
 use Prim.Native.Nat.{_-_}
