@@ -2,13 +2,12 @@
 pub mod shape;
 
 use calls::Call;
-use calls::Outcome;
 use edits::answer::AnswerWords;
 use renumber::log::LogPlace;
 use slabs::counters::Counters;
 
 // What a run says: 20, 21 or 0; how many records it wrote; and the counters after it.
-pub struct Ran {
+pub struct RunAnswer {
     pub code: u32,
     pub records: u32,
     pub counters: Counters,
@@ -44,7 +43,7 @@ fn answer_calls(
     answers: &mut [u32],
     log: &mut [u32],
     counters: Counters,
-) -> Ran {
+) -> RunAnswer {
     let mut now = counters;
     let mut at: usize = 0;
     let mut i: u32 = 0;
@@ -66,7 +65,7 @@ fn answer_calls(
         at = done.to.at;
         i += 1;
     }
-    Ran {
+    RunAnswer {
         code: 0,
         records: at as u32,
         counters: now,
@@ -84,7 +83,7 @@ pub fn run(
     answers: &mut [u32],
     log: &mut [u32],
     counters: Counters,
-) -> Ran {
+) -> RunAnswer {
     if !shape::well_shaped(
         slots.len(),
         links.len(),
@@ -95,14 +94,14 @@ pub fn run(
         answers.len(),
         log.len(),
     ) {
-        return Ran {
+        return RunAnswer {
             code: 20,
             records: 0,
             counters,
         };
     }
     if !audit::audit(slots, links, owners, heads, scratch, counters) {
-        return Ran {
+        return RunAnswer {
             code: 21,
             records: 0,
             counters,

@@ -1,0 +1,2 @@
+-- What a run of calls is.
+pub mod Run
