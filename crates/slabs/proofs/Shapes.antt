@@ -11,6 +11,7 @@ use lib.Dec.{eqb}
 use Rattle.slabs.specs.Choice.{pick}
 use Rattle.slabs.specs.Links.{Inside, cutAt, wiredAt, cutRun, wiresIn}
 use Rattle.slabs.specs.Slab.{filled}
+use Rattle.slabs.proofs.ChoiceLaws.{pick-bit}
 
 -- A word that is stored is read back, or lies past the end and is lost.
 pub read-set : (ls : List ℕ) (i w p b : ℕ) → w ≤ b → getD ls p 0 ≤ b → getD (set ls i w) p 0 ≤ b
@@ -46,11 +47,7 @@ cutAt-inside ls p h = go (eqb (getD ls p 0) 0)
 
 pub wiredAt-le : (ls : List ℕ) (p : ℕ) → wiredAt ls p ≤ 1
 unfolding wiredAt
-wiredAt-le ls p = go (eqb (getD ls p 0) 0)
-  where
-    go : (t : Bool) → pick t 0 1 ≤ 1
-    go true = omega arith
-    go false = omega arith
+wiredAt-le ls p = pick-bit (eqb (getD ls p 0) 0)
 
 pub cutRun-length : (ls : List ℕ) (first n : ℕ) → length (cutRun ls first n) ≡ length ls
 unfolding cutRun
