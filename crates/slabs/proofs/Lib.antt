@@ -6,3 +6,4 @@ pub mod EntryLaws
 pub mod FillLaws
 pub mod WireLaws
 pub mod SlabLaws
+pub mod HeldLaws
