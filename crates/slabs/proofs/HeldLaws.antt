@@ -103,6 +103,7 @@ module _ {links owners heads : List ℕ} {mark : ℕ} {held : ℕ → ℕ} (s : 
 
 module _ {links owners heads : List ℕ} {mark : ℕ} (held : ℕ → ℕ) (first size : ℕ)
     (s : Slabs links owners heads mark (with held first size)) (some : 1 ≤ size) (wiring : Wiring owners links (with held first size)) where
+  -- Each port of the slab is held.
   hold : (i : ℕ) → i < size → 1 ≤ with held first size (first + i)
   hold i l = omega (arith, inSlab-at first size i l)
 
