@@ -2,20 +2,19 @@
 use Prim.Native.Nat.{ℕ, suc, zero, _+_, _*_, _≤_, _<_}
 use mathlib.Core.List.{List}
 use mathlib.Core.Path.{_≡_, refl, _∙_}
-use mathlib.Core.Bool.{Bool, true, false}
 use native.Mathlib.Omega.{arith}
 use native.Mathlib.Nat.{add-sub-cancel}
 use lib.ListN.{length, getD, set, length-set}
 use lib.Seq.{getD-set-same, getD-set-other}
 use lib.Dec.{leb}
 use borrow.Author.Tests.{ne-eqb, le-leb, lt-leb}
-use Rattle.slabs.specs.Choice.{pick}
 use Rattle.slabs.specs.PortEntry.{outletBit, ownerWord, directionOf, nodeOf, portEntry}
 use Rattle.slabs.specs.declared.port_entry.PortEntry.the-variants.{Port}
 use Rattle.slabs.specs.NodeEntry.{width, slotWord, nodeEntry, setSlot, setEntry}
 use Rattle.slabs.specs.declared.node_entry.NodeMeta.{NodeMeta}
 use Rattle.slabs.specs.declared.node_entry.NodeEntry.{NodeEntry}
 use Rattle.slabs.specs.declared.node_entry.NodeEntry.the-variants.{Free, Node}
+use Rattle.slabs.proofs.ChoiceLaws.{pick-bit}
 
 -- The owner word of a live port is not 0.
 pub owner-live : (node d : ℕ) → ownerWord node d ≡ 0 → ⊥
@@ -44,11 +43,7 @@ owner-entry node d h k =
 -- A direction is 0 or 1.
 pub direction-le : (w : ℕ) → directionOf w ≤ 1
 unfolding directionOf
-direction-le w = go (leb w outletBit)
-  where
-    go : (t : Bool) → pick t 0 1 ≤ 1
-    go true = omega arith
-    go false = omega arith
+direction-le w = pick-bit (leb w outletBit)
 
 -- A written entry leaves the table's length.
 pub setEntry-length : (slots : List ℕ) (k : ℕ) (e : NodeEntry) → length (setEntry slots k e) ≡ length slots

@@ -11,8 +11,9 @@ use lib.Dec.{eqb}
 use Rattle.slabs.specs.Choice.{pick}
 use Rattle.slabs.specs.Links.{Inside, cutAt, wiredAt, cutRun, wiresIn}
 use Rattle.slabs.specs.Slab.{filled}
+use Rattle.slabs.proofs.ChoiceLaws.{pick-bit}
 
--- A word that is stored is read back, or lies past the end and is lost.
+-- After a store each word is the one that was stored or the one before, so a bound of both is one of it.
 pub read-set : (ls : List ℕ) (i w p b : ℕ) → w ≤ b → getD ls p 0 ≤ b → getD (set ls i w) p 0 ≤ b
 read-set ls i w p b hw hp = other (ℕ-discrete p i)
   where
@@ -28,6 +29,7 @@ read-set ls i w p b hw hp = other (ℕ-discrete p i)
 pub set-inside : (ls : List ℕ) (i w : ℕ) → w ≤ length ls → Inside ls → Inside (set ls i w)
 set-inside ls i w hw h p = rw length-set (read-set ls i w p (length ls) hw (h p))
 
+-- Cutting at a port leaves the length,
 pub cutAt-length : (ls : List ℕ) (p : ℕ) → length (cutAt ls p) ≡ length ls
 unfolding cutAt
 cutAt-length ls p = go (eqb (getD ls p 0) 0)
@@ -36,6 +38,7 @@ cutAt-length ls p = go (eqb (getD ls p 0) 0)
     go true = refl
     go false = simp length-set
 
+-- and keeps the link words inside.
 pub cutAt-inside : (ls : List ℕ) (p : ℕ) → Inside ls → Inside (cutAt ls p)
 unfolding cutAt
 cutAt-inside ls p h = go (eqb (getD ls p 0) 0)
@@ -44,29 +47,30 @@ cutAt-inside ls p h = go (eqb (getD ls p 0) 0)
     go true = h
     go false = set-inside (set ls p 0) (getD ls p 0 - 1) 0 (omega arith) (set-inside ls p 0 (omega arith) h)
 
+-- One port has one wire at most.
 pub wiredAt-le : (ls : List ℕ) (p : ℕ) → wiredAt ls p ≤ 1
 unfolding wiredAt
-wiredAt-le ls p = go (eqb (getD ls p 0) 0)
-  where
-    go : (t : Bool) → pick t 0 1 ≤ 1
-    go true = omega arith
-    go false = omega arith
+wiredAt-le ls p = pick-bit (eqb (getD ls p 0) 0)
 
+-- Cutting over a run leaves the length too,
 pub cutRun-length : (ls : List ℕ) (first n : ℕ) → length (cutRun ls first n) ≡ length ls
 unfolding cutRun
 cutRun-length ls first zero = refl
 cutRun-length ls first (suc n) = cutAt-length (cutRun ls first n) (first + n) ∙ cutRun-length ls first n
 
+-- and keeps the link words inside.
 pub cutRun-inside : (ls : List ℕ) (first n : ℕ) → Inside ls → Inside (cutRun ls first n)
 unfolding cutRun
 cutRun-inside ls first zero h = h
 cutRun-inside ls first (suc n) h = cutAt-inside (cutRun ls first n) (first + n) (cutRun-inside ls first n h)
 
+-- A run has as many wires as ports at most.
 pub wiresIn-le : (ls : List ℕ) (first n : ℕ) → wiresIn ls first n ≤ n
 unfolding wiresIn
 wiresIn-le ls first zero = omega arith
 wiresIn-le ls first (suc n) = omega (arith, wiresIn-le ls first n, wiredAt-le (cutRun ls first n) (first + n))
 
+-- Filling leaves the length.
 pub filled-length : (ls : List ℕ) (first n w : ℕ) → length (filled ls first n w) ≡ length ls
 unfolding filled
 filled-length ls first zero w = refl

@@ -15,6 +15,7 @@ use Rattle.slabs.specs.Sums.{sum, sumOf}
 use Rattle.slabs.specs.Links.{Inside, Wiring, cutRun}
 use Rattle.slabs.specs.Slab.{headOf, atHand, takenFirst, takenLinks, takenHeads, takenMark, filled, freedLinks, freedOwners, freedHeads}
 use Rattle.slabs.specs.Slabs.{inSlab, isPort, Chain, freeAt, startsAt, Slabs, with}
+use Rattle.slabs.proofs.ChoiceLaws.{pick-same}
 use Rattle.slabs.proofs.Shapes.{cutRun-length, filled-length}
 use Rattle.slabs.proofs.FillLaws.{filled-in, filled-apart}
 use Rattle.slabs.proofs.WireLaws.{cutRun-in, cutRun-still}
@@ -33,11 +34,7 @@ inSlab-below first size p l = simp (lt-leb first p l)
 -- A port from the end on does not.
 pub inSlab-above : (first size p : ℕ) → first + size ≤ p → inSlab first size p ≡ 0
 unfolding inSlab
-inSlab-above first size p u = simp (le-ltb p (first + size) u) (go (leb first p))
-  where
-    go : (t : Bool) → _≡_ {A = ℕ} (pick t 0 0) 0
-    go true = refl
-    go false = refl
+inSlab-above first size p u = simp (le-ltb p (first + size) u) (pick-same (leb first p) 0)
 
 -- A port lies in a slab once at most.
 pub inSlab-le : (first size p : ℕ) → inSlab first size p ≤ 1
@@ -155,21 +152,21 @@ module _ {links owners heads : List ℕ} {mark : ℕ} {held : ℕ → ℕ} (s : 
   pub start-unheld : (i p : ℕ) → i < length heads → 1 ≤ sumOf (λ f. isPort f p) (s .chains i) → held p ≡ 0
   start-unheld i p l h = omega (arith, at-most-once p, chain-free (s .chains) (length heads) i p l)
 
-  -- A port that is held is below the mark.
-  pub held-below : (p : ℕ) → 1 ≤ held p → p < mark
-  held-below p h = go (decLt p mark)
+  -- A port in a slab is below the mark:
+  slab-below : (p : ℕ) → 1 ≤ held p + freeAt (s .chains) (length heads) p → p < mark
+  slab-below p h = go (decLt p mark)
     where
       go : Dec (p < mark) → p < mark
       go (yes k) = k
       go (no k) = absurd (omega (arith, s .within p (omega arith)))
 
-  -- So is one that is free.
+  -- one that is held,
+  pub held-below : (p : ℕ) → 1 ≤ held p → p < mark
+  held-below p h = slab-below p (omega arith)
+
+  -- and one that is free.
   pub free-below : (p : ℕ) → 1 ≤ freeAt (s .chains) (length heads) p → p < mark
-  free-below p h = go (decLt p mark)
-    where
-      go : Dec (p < mark) → p < mark
-      go (yes k) = k
-      go (no k) = absurd (omega (arith, s .within p (omega arith)))
+  free-below p h = slab-below p (omega arith)
 
   -- So is the first port of a free slab.
   start-below : (i p : ℕ) → i < length heads → 1 ≤ sumOf (λ f. isPort f p) (s .chains i) → p < mark

@@ -4,16 +4,15 @@ use Prim.Native.Nat.{ℕ, suc, zero, _+_, _-_, _≤_, _<_}
 use mathlib.Core.List.{List, [], _∷_}
 use mathlib.Core.Logic.{_⊎_, inl, inr}
 use mathlib.Core.Path.{_≡_, refl, sym, ap, _∙_}
-use mathlib.Core.Bool.{Bool, true, false}
 use native.Mathlib.Omega.{arith}
 use native.Mathlib.Decide.{ℕ-discrete, decLt}
 use lib.ListN.{getD, set}
 use lib.Seq.{getD-set-other}
 use lib.Dec.{eqb}
 use borrow.Author.Tests.{eq-eqb, ne-eqb}
-use Rattle.slabs.specs.Choice.{pick}
 use Rattle.slabs.specs.PortEntry.{Live, directionOf}
 use Rattle.slabs.specs.Links.{Wiring, wiredOutlet, pairs, cutAt, wiredAt, cutRun, wiresIn}
+use Rattle.slabs.proofs.ChoiceLaws.{pick-same}
 use Rattle.slabs.proofs.Shapes.{read-set}
 use Rattle.slabs.proofs.SumLaws.{sum-change}
 use Rattle.slabs.proofs.EntryLaws.{direction-le}
@@ -111,11 +110,7 @@ cutRun-apart links first (suc n) q out none =
 -- A port without a wire adds none to the count,
 pub wired-loose : (owner : ℕ) → wiredOutlet owner 0 ≡ 0
 unfolding wiredOutlet
-wired-loose owner = go (eqb owner 0)
-  where
-    go : (t : Bool) → pick {A = ℕ} t 0 0 ≡ 0
-    go true = refl
-    go false = refl
+wired-loose owner = pick-same (eqb owner 0) 0
 
 -- and a live one with a wire adds its direction.
 pub wired-live : (owner q : ℕ) → (owner ≡ 0 → ⊥) → wiredOutlet owner (suc q) ≡ directionOf owner

@@ -1,17 +1,10 @@
+-- One field is what `less` gives, and the others stay.
 use borrow.Author.Needs.{needs}
 use Rattle.slabs.proofs.counters.Counters.node_uncounted.Statement.{statement}
 use Rattle.slabs.proofs.counters.Counters.node_uncounted.Tie as tie
-use Rattle.slabs.proofs.counters.Counters.node_uncounted.Reads as reads
-use Rattle.slabs.proofs.counters.Counters.node_uncounted.Lts as lts
-use Rattle.slabs.proofs.counters.less.Reads as less-reads
 
--- src/counters.rt:94:9
-less-requires : tie.Need-less-requires
-less-requires c κs = search needs
-
--- src/counters.rt:91:5
 returns : tie.Need-returns
 returns c = rw (c .less .ensures)
 
 pub node-uncounted-spec : {M : Type 1} → statement M
-node-uncounted-spec = tie.close (tie.spec less-requires returns)
+node-uncounted-spec = tie.close (tie.spec (λ less-requires κs. search needs) returns)
