@@ -23,7 +23,7 @@ pub fn link_answer(owners: &[u32], links: &[u32], mark: u32, a: u32, b: u32) -> 
         direction: facing,
     } = there
     else {
-        return Answer::NoPort(a);
+        return Answer::NoPort(a); // not b
     };
     if direction == facing {
         return Answer::SameDirection(a, b, direction);
