@@ -6,13 +6,14 @@ use lib.ListN.{length, getD, set}
 use Rattle.slabs.specs.NodeEntry.{width}
 use Rattle.slabs.specs.Slab.{filled}
 use Rattle.slabs.specs.declared.counters.Counters.{Counters}
-use Rattle.edits.specs.Store.{Store}
+use Rattle.edits.specs.Store.{Store, storeOf}
 use Rattle.edits.specs.Answer.{answerWords}
 use Rattle.edits.specs.declared.answer.AnswerWords.{AnswerWords}
 use Rattle.renumber.specs.Records.{recordWidth, logged}
 use Rattle.calls.specs.Call.{After, callOf}
 use Rattle.calls.specs.declared.Call.{Call}
 use Rattle.sound.specs.Sound.{Shaped, Sound}
+use Rattle.run.specs.declared.RunAnswer.{RunAnswer}
 
 -- everything that is lent to a run, and the counters
 pub record Lent : Type 0 where
@@ -22,21 +23,41 @@ pub record Lent : Type 0 where
   pub answers : List ℕ
   pub log : List ℕ
 
+abbrev pub lentOf : List ℕ → List ℕ → List ℕ → List ℕ → Counters → List ℕ → List ℕ → List ℕ → List ℕ → Lent
+lentOf slots links owners heads c scratch calls answers log =
+    record { store = storeOf slots links owners heads c; scratch = scratch; calls = calls; answers = answers; log = log }
+
 -- the words of a call, and of an answer
 abbrev pub callWidth : ℕ
 callWidth = 4
 
--- The lengths of "Lent memory". Where one is broken, the run answers 20.
-pub record Lengths (m : Lent) : Type 0 where
-  pub shaped : Shaped (m .store)
-  pub scratch-room : length (m .store .slots) / width + length (m .store .links) ≤ length (m .scratch)
+-- a whole number of fours, at most so many
+pub record WholeUpTo (n most : ℕ) : Type 0 where
+  pub fours : ℕ
+  pub whole : n ≡ 4 * fours
+  pub few : fours ≤ most
+
+-- "Lent memory", by the lengths of what is lent: whole slots, calls and records, each at most so many
+pub record LengthsOf (slots links owners heads scratch calls answers log : ℕ) : Type 0 where
+  pub room : ℕ
+  pub whole : slots ≡ width * room
+  pub few-slots : room ≤ 65536
+  pub equal : owners ≡ links
+  pub few-ports : links ≤ 1048576
+  pub some-heads : 1 ≤ heads
+  pub few-heads : heads ≤ 32768
+  pub scratch-room : slots / width + links ≤ scratch
   pub count : ℕ
-  pub whole-calls : length (m .calls) ≡ callWidth * count
+  pub whole-calls : calls ≡ callWidth * count
   pub few-calls : count ≤ 256
-  pub answer-room : length (m .calls) ≤ length (m .answers)
+  pub answer-room : calls ≤ answers
   pub records : ℕ
-  pub whole-log : length (m .log) ≡ recordWidth * records
+  pub whole-log : log ≡ recordWidth * records
   pub few-records : records ≤ 1048576
+
+-- The lengths of "Lent memory". Where one is broken, the run answers 20.
+abbrev pub Lengths : Lent → Type 0
+Lengths m = LengthsOf (length (m .store .slots)) (length (m .store .links)) (length (m .store .owners)) (length (m .store .heads)) (length (m .scratch)) (length (m .calls)) (length (m .answers)) (length (m .log))
 
 -- call number i
 abbrev pub callAt : List ℕ → ℕ → Call
@@ -66,9 +87,12 @@ oneMore w call place =
     }
 
 -- the first n calls, in order
-unfoldable pub midway : Lent → ℕ → Midway
-midway m zero = record { store = m .store; answers = m .answers; log = m .log; written = 0 }
-midway m (suc n) = oneMore (midway m n) (callAt (m .calls) n) n
+unfoldable pub stepped : Store → List ℕ → List ℕ → List ℕ → ℕ → Midway
+stepped s calls answers log zero = record { store = s; answers = answers; log = log; written = 0 }
+stepped s calls answers log (suc n) = oneMore (stepped s calls answers log n) (callAt calls n) n
+
+abbrev pub midway : Lent → ℕ → Midway
+midway m n = stepped (m .store) (m .calls) (m .answers) (m .log) n
 
 -- every scratch word is 0
 abbrev pub scratchZero : Lent → List ℕ
@@ -81,6 +105,26 @@ zeroed m = record { store = m .store; scratch = scratchZero m; calls = m .calls;
 -- the memory once all calls are answered
 abbrev pub answered : Lent → Midway → Lent
 answered m w = record { store = w .store; scratch = scratchZero m; calls = m .calls; answers = w .answers; log = w .log }
+
+-- What answering the calls asks: a sound store of well-shaped tables, and room for whole calls, answers and records.
+pub record CanAnswer (s : Store) (calls answers log : List ℕ) : Type 0 where
+  pub shaped : Shaped s
+  pub sound : Sound s
+  pub count : ℕ
+  pub whole-calls : length calls ≡ callWidth * count
+  pub few-calls : count ≤ 256
+  pub answer-room : length calls ≤ length answers
+  pub few-records : length log ≤ recordWidth * 1048576
+
+-- What it does.
+pub record Answered (s : Store) (calls answers log : List ℕ) (s′ : Store) (answers′ log′ : List ℕ) (r : RunAnswer) : Type 0 where
+  pub count : ℕ
+  pub counted : length calls ≡ callWidth * count
+  pub code : r .code ≡ 0
+  pub records : r .records ≡ stepped s calls answers log count .written
+  pub store-after : s′ ≡ stepped s calls answers log count .store
+  pub answers-after : answers′ ≡ stepped s calls answers log count .answers
+  pub log-after : log′ ≡ stepped s calls answers log count .log
 
 -- What a run does: the memory before and after, its answer, and how many records it reports.
 pub data Ran (m : Lent) : Lent → ℕ → ℕ → Type 0 where

@@ -1,7 +1,15 @@
 // The lengths that document 01 sets for the lent memory.
+ghost use Rattle.audit.specs.Decides.{Decides};
+ghost use Rattle.run.specs.Run.{LengthsOf, WholeUpTo};
 
-fn in_fours(n: usize) -> bool {
-    n % 4 == 0
+// Whether a length is a whole number of fours, at most so many.
+fn whole(n: usize, most: usize) -> bool
+    ensures { λ r. ⌜ Decides r (WholeUpTo n most) ⌝ }
+{
+    if n % 4 != 0 {
+        return false;
+    }
+    n / 4 <= most
 }
 
 pub fn well_shaped(
@@ -13,14 +21,13 @@ pub fn well_shaped(
     calls: usize,
     answers: usize,
     log: usize,
-) -> bool {
-    if !in_fours(slots) {
+) -> bool
+    ensures { λ r. ⌜ Decides r (LengthsOf slots links owners heads scratch calls answers log) ⌝ }
+{
+    if !whole(slots, 65536) {
         return false;
     }
-    if 262144 < slots {
-        return false;
-    }
-    if links != owners {
+    if owners != links {
         return false;
     }
     if 1048576 < links {
@@ -35,17 +42,11 @@ pub fn well_shaped(
     if scratch < slots / 4 + links {
         return false;
     }
-    if !in_fours(calls) {
-        return false;
-    }
-    if 1024 < calls {
+    if !whole(calls, 256) {
         return false;
     }
     if answers < calls {
         return false;
     }
-    if !in_fours(log) {
-        return false;
-    }
-    log <= 4194304
+    whole(log, 1048576)
 }

@@ -4,6 +4,7 @@ use crate::numbers::Parsed;
 use calls::Call;
 
 const TAB: u8 = 9;
+
 const NEWLINE: u8 = 10;
 
 // A line of a text: a call and the place after the line, or none.

@@ -1,4 +1,6 @@
 // The desk's text: lines of calls in, lines of answers and records out.
+ghost use Rattle.text.specs.Lines.{Printed};
+
 pub mod input;
 pub mod numbers;
 pub mod output;
@@ -8,7 +10,9 @@ use slabs::counters::Counters;
 
 // Answers a text of calls over an empty store of 64 slots, 512 ports, 128 slab heads and 512 records, and says how long the
 // answer is. The output has room for every line that 256 calls can give.
-pub fn desk(text: &[u8], out: &mut [u8; 32768]) -> usize {
+pub fn desk(text: &[u8], out: &mut [u8; 32768]) -> usize
+    ensures { λ r. ⌜ Printed (now (text .entry)) (now (out .entry)) (now (out .exit)) r ⌝ }
+{
     let mut calls = [0u32; 1024];
     let read = input::read_calls(text, &mut calls);
     match read {

@@ -1,5 +1,6 @@
 // Lines of answers and records.
 const TAB: u8 = 9;
+
 const NEWLINE: u8 = 10;
 
 // Writes one byte, and says where the next goes.

@@ -1,0 +1,3 @@
+-- The desk's text, in and out.
+pub mod Decimal
+pub mod Lines
