@@ -1,0 +1,4 @@
+-- The laws that the proofs of this crate, and of the crates above it, cite.
+pub mod RecordLaws
+pub mod MoveLaws
+pub mod PackLaws
