@@ -1,5 +1,5 @@
 -- The true counts are no greater than the marks: so a count that is kept true never grows past the tables.
-use Prim.Native.Nat.{ℕ, suc, zero, _+_, _≤_}
+use Prim.Native.Nat.{ℕ, suc, zero, _≤_}
 use mathlib.Core.List.{List}
 use mathlib.Core.Bool.{Bool, true, false}
 use native.Mathlib.Omega.{arith}

@@ -1,5 +1,4 @@
 -- Clear, call 0 (document 01, under the table of the calls): every table word and every counter is 0.
-use mathlib.Core.List.{List}
 use lib.ListN.{length}
 use Rattle.slabs.specs.Counters.{noneCounted}
 use Rattle.slabs.specs.Slab.{filled}

@@ -12,7 +12,7 @@ use Rattle.slabs.specs.Slab.{ownersWritten}
 use Rattle.slabs.specs.declared.counters.Counters.{Counters}
 use Rattle.slabs.specs.declared.node_entry.NodeEntry.{NodeEntry}
 use Rattle.slabs.specs.declared.node_entry.NodeEntry.the-variants.{Free, Node}
-use Rattle.edits.specs.Store.{Store, onNode}
+use Rattle.edits.specs.Store.{Store}
 use Rattle.edits.specs.FreeSlots.{setPrevious, setNext}
 use Rattle.edits.specs.Steps.{most}
 use Rattle.edits.specs.declared.answer.Answer.{Answer}

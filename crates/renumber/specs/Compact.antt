@@ -8,7 +8,6 @@ use Rattle.slabs.specs.NodeEntry.{width, nodeEntry, setEntry}
 use Rattle.slabs.specs.PortEntry.{nodeOf}
 use Rattle.slabs.specs.Counters.{nodesPacked, portsPacked}
 use Rattle.slabs.specs.Slab.{filled, ownersWritten}
-use Rattle.slabs.specs.declared.node_entry.NodeMeta.{NodeMeta}
 use Rattle.slabs.specs.declared.node_entry.NodeEntry.the-variants.{Node}
 use Rattle.edits.specs.Store.{Store, onNode}
 use Rattle.edits.specs.Counts.{liveSlots, livePorts}

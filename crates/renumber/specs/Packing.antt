@@ -1,5 +1,5 @@
 -- The parts of the compactions: what each asks of the words that it is lent, and what it does to every one of them.
-use Prim.Native.Nat.{ℕ, _+_, _*_, _≤_, _<_}
+use Prim.Native.Nat.{ℕ, _*_, _≤_, _<_}
 use mathlib.Core.Path.{_≡_}
 use mathlib.Core.List.{List}
 use lib.ListN.{length, getD}
@@ -11,7 +11,7 @@ use Rattle.slabs.specs.declared.counters.Counters.{Counters}
 use Rattle.edits.specs.Store.{Store}
 use Rattle.edits.specs.Counts.{liveSlots, livePorts}
 use Rattle.edits.specs.Fit.{SlotsFit, StoreIs}
-use Rattle.renumber.specs.Records.{recordWidth, logged}
+use Rattle.renumber.specs.Records.{logged}
 use Rattle.renumber.specs.Compact.{packedSlots, renamedOwners, nodeRecords, compactedSlots, packedLinks, packedOwners, followedSlots, portRecords, portsCompacted}
 use Rattle.renumber.specs.Room.{RecordRoom}
 use Rattle.renumber.specs.declared.log.LogPlace.{LogPlace}

@@ -1,6 +1,6 @@
 // Records: the place of their call in the run, kind, old, new; four words each.
 ghost use mathlib.Core.Path.{_≡_};
-ghost use Prim.Native.Nat.{_+_, _*_, _≤_, _<_};
+ghost use Prim.Native.Nat.{_+_, _*_, _≤_};
 ghost use lib.ListN.{length};
 ghost use Rattle.renumber.specs.Records.{recordWidth, rec, setRecord, later};
 

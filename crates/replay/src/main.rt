@@ -10,5 +10,12 @@ fn main() {
     let mut owners = [0u32; 65536];
     let mut heads = [0u32; 32768];
     let mut log = [0u32; 262144];
-    sessions::replay(&text[..n], &mut slots, &mut links, &mut owners, &mut heads, &mut log);
+    sessions::replay(
+        &text[..n],
+        &mut slots,
+        &mut links,
+        &mut owners,
+        &mut heads,
+        &mut log,
+    );
 }

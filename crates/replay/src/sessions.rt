@@ -13,7 +13,11 @@ pub struct Session {
 
 // The smaller of a number and a bound.
 fn at_most(x: u32, most: usize) -> usize {
-    if (x as usize) < most { x as usize } else { most }
+    if (x as usize) < most {
+        x as usize
+    } else {
+        most
+    }
 }
 
 // A word of a table is overwritten, where the table has it.

@@ -1,5 +1,5 @@
 -- The six counters (document 01, "Lent memory"): what each change of them is, in every field.
-use Prim.Native.Nat.{ℕ, _+_, _-_, _≤_}
+use Prim.Native.Nat.{ℕ, _+_, _-_}
 use Rattle.slabs.specs.declared.counters.Counters.{Counters}
 
 -- an empty store

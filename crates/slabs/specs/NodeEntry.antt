@@ -1,5 +1,5 @@
 -- Slot words (document 01, "Lent memory", slots), and the ports of a live slot in its slab: inlets, outlets, spare.
-use Prim.Native.Nat.{ℕ, _+_, _-_, _*_, _≤_}
+use Prim.Native.Nat.{ℕ, _+_, _-_, _*_}
 use mathlib.Core.List.{List}
 use lib.ListN.{getD, set}
 use lib.Dec.{eqb}

@@ -1,8 +1,8 @@
 -- Taking and freeing a slab (document 01, "Rules of the edits", second rule), one definition for each table that changes.
-use Prim.Native.Nat.{ℕ, suc, zero, _+_, _-_, _≤_, _*_}
+use Prim.Native.Nat.{ℕ, suc, zero, _+_, _-_, _≤_}
 use mathlib.Core.Path.{_≡_}
 use mathlib.Core.List.{List}
-use mathlib.Core.Bool.{Bool, true, false}
+use mathlib.Core.Bool.{Bool, true}
 use lib.ListN.{length, getD, set}
 use lib.Dec.{eqb, leb}
 use Rattle.slabs.specs.Choice.{pick}

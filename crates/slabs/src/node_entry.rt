@@ -1,6 +1,6 @@
 // Slot words: a live step with its slab, or a free slot with its neighbours in the free chain.
 ghost use mathlib.Core.Path.{_≡_};
-ghost use Prim.Native.Nat.{_+_, _*_, _≤_, _<_};
+ghost use Prim.Native.Nat.{_+_, _*_, _≤_};
 ghost use lib.ListN.{length};
 ghost use Rattle.slabs.specs.NodeEntry.{width, nodeEntry, setSlot, setEntry, inletsOf, inletPorts, outletPorts, sparePorts};
 

@@ -2,7 +2,7 @@
 ghost use mathlib.Core.Path.{_≡_};
 ghost use Prim.Native.Nat.{_+_, _≤_, _<_};
 ghost use lib.ListN.{length};
-ghost use Rattle.slabs.specs.Slab.{atHand, CanTake, TookSlab, filled, ownersWritten, CanFree, FreedSlab, headOf};
+ghost use Rattle.slabs.specs.Slab.{atHand, CanTake, TookSlab, filled, ownersWritten, CanFree, FreedSlab};
 use crate::counters::Counters;
 use crate::links;
 use crate::port_entry;

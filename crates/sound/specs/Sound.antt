@@ -3,7 +3,7 @@ use Prim.Native.Nat.{ℕ, suc, _+_, _*_, _≤_, _<_}
 use mathlib.Core.Path.{_≡_}
 use mathlib.Core.List.{List, [], _∷_}
 use lib.ListN.{length, getD}
-use lib.Dec.{eqb, ltb}
+use lib.Dec.{ltb}
 use Rattle.slabs.specs.Choice.{pick}
 use Rattle.slabs.specs.Sums.{sum, sumOf}
 use Rattle.slabs.specs.PortEntry.{ownerWord}
