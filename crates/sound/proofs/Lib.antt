@@ -1,2 +1,20 @@
 -- The laws of a sound store: what it gives to the code of the calls, and that every call keeps it.
 pub mod Parts
+pub mod ChainLaws
+pub mod Fits
+pub mod Kept
+pub mod Wires
+pub mod Shapes
+pub mod Questions
+pub mod RenameLaws
+pub mod SlotLaws
+pub mod FreeSlotLaws
+pub mod SlotTable
+pub mod OwnerLaws
+pub mod PortTable
+pub mod Halves
+pub mod Exchange
+pub mod FreeMove
+pub mod Add
+pub mod Remove
+pub mod Swap
