@@ -2,3 +2,6 @@
 pub mod RecordLaws
 pub mod MoveLaws
 pub mod PackLaws
+pub mod ResizeLaws
+pub mod ResizeParts
+pub mod AnswerLaws

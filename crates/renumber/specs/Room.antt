@@ -8,9 +8,10 @@ use Rattle.slabs.specs.NodeEntry.{width, nodeEntry}
 use Rattle.slabs.specs.Links.{Inside, cutRun, wiresIn}
 use Rattle.slabs.specs.Slab.{headOf, atHand, takenFirst, takenHeads, takenCounters}
 use Rattle.slabs.specs.declared.counters.Counters.{Counters}
+use Rattle.slabs.specs.declared.node_entry.NodeMeta.{NodeMeta}
 use Rattle.slabs.specs.declared.node_entry.NodeEntry.the-variants.{Node}
 use Rattle.edits.specs.Store.{Store}
-use Rattle.edits.specs.Steps.{most, removedOwners, removedHeads}
+use Rattle.edits.specs.Steps.{most, removedLinks, removedOwners, removedHeads}
 use Rattle.edits.specs.Fit.{SlotFits, StoreIs}
 use Rattle.renumber.specs.Records.{recordWidth, logged}
 use Rattle.renumber.specs.Moves.{removedRecords, movedRun, movedRecords}
@@ -106,7 +107,20 @@ pub record MovedKept (links log : List ℕ) (to : LogPlace) (ch : Change) (first
   pub links-after : links′ ≡ movedInto links ch first
   pub log-after : log′ ≡ logged log (to .at) (to .place) (movedRecords (inletsInto ch first) ++ movedRecords (outletsInto ch first))
 
--- which is taken before the old one is freed.
+-- and the old slab, where there is one, is freed,
+pub record CanFreeOld (links owners heads : List ℕ) (m : NodeMeta) : Type 0 where
+  pub sized : m .capacity ≤ length heads
+  pub inside : m .first + m .capacity ≤ length links
+  pub owned : m .first + m .capacity ≤ length owners
+  pub small : length links ≤ 1048576
+  pub links-inside : Inside links
+
+pub record FreedOld (links owners heads : List ℕ) (m : NodeMeta) (links′ owners′ heads′ : List ℕ) : Type 0 where
+  pub links-after : links′ ≡ removedLinks links heads m
+  pub owners-after : owners′ ≡ removedOwners owners m
+  pub heads-after : heads′ ≡ removedHeads heads m
+
+-- after the new one is taken.
 pub record CanReallocate (slots links owners heads log : List ℕ) (c : Counters) (to : LogPlace) (ch : Change) : Type 0 where
   pub small-change : SmallChange ch
   pub few : ch .node < 65536

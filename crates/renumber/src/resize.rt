@@ -6,7 +6,7 @@ ghost use Rattle.slabs.specs.NodeEntry.{width};
 ghost use Rattle.edits.specs.Store.{storeOf};
 ghost use Rattle.edits.specs.Fit.{Fit, SlotsFit};
 ghost use Rattle.renumber.specs.Resize.{grownOnce, slabSize, isIdle, isInPlace, inletsKept, outletsKept, inletsRemoved, outletsRemoved, recordsNeeded, logAnswer, changeAnswer, resizeAnswer, changedSlots, changedOwners};
-ghost use Rattle.renumber.specs.Room.{SmallChange, CanChange, CutRemoved, CanCutRemoved, CanShift, Shifted, CanMoveKept, MovedKept, CanReallocate, Reallocated, Resized};
+ghost use Rattle.renumber.specs.Room.{SmallChange, CanChange, CutRemoved, CanCutRemoved, CanShift, Shifted, CanMoveKept, MovedKept, CanFreeOld, FreedOld, CanReallocate, Reallocated, Resized};
 use crate::log::LogPlace;
 use crate::moves;
 use crate::moves::Run;
@@ -264,6 +264,17 @@ fn move_kept(links: &mut [u32], log: &mut [u32], to: LogPlace, change: Change, f
     moves::record_moves(log, to.past(ins.n), outs);
 }
 
+// Frees the old slab, where there is one.
+fn free_old(links: &mut [u32], owners: &mut [u32], heads: &mut [u32], meta: NodeMeta)
+    requires { ⌜ CanFreeOld (now links) (now owners) (now heads) meta ⌝ }
+    ensures { λ _. ⌜ FreedOld (now (links .entry)) (now (owners .entry)) (now (heads .entry)) meta (now (links .exit)) (now (owners .exit)) (now (heads .exit)) ⌝ }
+{
+    if meta.capacity == 0 {
+        return;
+    }
+    slabs::slab::free_slab(links, owners, heads, meta.first, meta.capacity);
+}
+
 // Into a new slab, which is taken before the old one is freed.
 fn reallocate(
     slots: &mut [u32],
@@ -284,15 +295,7 @@ fn reallocate(
     own_ports(owners, change, first);
     move_kept(links, log, to, change, first);
     write_change(slots, change, first, size);
-    if change.meta.capacity != 0 {
-        slabs::slab::free_slab(
-            links,
-            owners,
-            heads,
-            change.meta.first,
-            change.meta.capacity,
-        );
-    }
+    free_old(links, owners, heads, change.meta);
     taken.counters
 }
 
