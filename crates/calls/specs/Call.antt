@@ -131,3 +131,9 @@ pub record Became (after : After) (log : List ℕ) (to : LogPlace) (slots links 
   pub owners-after : owners ≡ after .store .owners
   pub heads-after : heads ≡ after .store .heads
   pub log-after : log′ ≡ logged log (to .at) (to .place) (after .records)
+
+-- What a call hands back: its answer, the counters, and the place of the next record.
+pub record Given (r : Outcome) (answer : Answer) (c : Counters) (to : LogPlace) : Type 0 where
+  pub answer-is : r .answer ≡ answer
+  pub counters-are : r .counters ≡ c
+  pub to-is : r .to ≡ to

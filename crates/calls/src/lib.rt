@@ -3,7 +3,7 @@ ghost use mathlib.Core.Path.{_≡_};
 ghost use Rattle.edits.specs.Store.{storeOf};
 ghost use Rattle.edits.specs.Fit.{Fit};
 ghost use Rattle.renumber.specs.Room.{LogFits};
-ghost use Rattle.calls.specs.Call.{remaining, Became, clearCall, addCall, removeCall, changeCall, CanDecide, resizeCall, linkCall, unlinkCall, swapCall, compactNodesCall, compactPortsCall, question, callOf};
+ghost use Rattle.calls.specs.Call.{remaining, Became, Given, clearCall, addCall, removeCall, changeCall, CanDecide, resizeCall, linkCall, unlinkCall, swapCall, compactNodesCall, compactPortsCall, question, callOf};
 use edits::answer::Answer;
 use edits::answer::is_done;
 use edits::clear;
@@ -35,7 +35,7 @@ pub struct Outcome {
 }
 
 fn give(answer: Answer, counters: Counters, to: LogPlace) -> Outcome
-    ensures { λ r. ⌜ (r .answer ≡ answer) × (r .counters ≡ counters) × (r .to ≡ to) ⌝ }
+    ensures { λ r. ⌜ Given r answer counters to ⌝ }
 {
     Outcome {
         answer,
