@@ -18,3 +18,14 @@ pub mod FreeMove
 pub mod Add
 pub mod Remove
 pub mod Swap
+pub mod MoveLaws
+pub mod Changes
+pub mod InPlace
+pub mod Reallocate
+pub mod Resize
+pub mod CountLaws
+pub mod CompactNodes
+pub mod PortPacking
+pub mod SlabPacking
+pub mod CompactPorts
+pub mod Calls

@@ -110,45 +110,45 @@ resized-shape s ch = pick-both (SameShape s) (isInPlace ch) (resizedInPlace s ch
     (record { slots = simp lengths; links = simp (lengths, run-length); owners = simp lengths; heads = refl })
     (record { slots = simp lengths; links = simp (lengths, run-length); owners = simp lengths; heads = simp lengths })
 
-packed-length : (slots : List ℕ) (k : ℕ) → length (packedSlots slots k) ≡ length slots
+pub packed-length : (slots : List ℕ) (k : ℕ) → length (packedSlots slots k) ≡ length slots
 unfolding packedSlots
 packed-length slots zero = refl
 packed-length slots (suc k) = simp (lengths, packed-length slots k)
 
-renamed-length : (slots owners : List ℕ) (k : ℕ) → length (renamedOwners slots owners k) ≡ length owners
+pub renamed-length : (slots owners : List ℕ) (k : ℕ) → length (renamedOwners slots owners k) ≡ length owners
 unfolding renamedOwners
 renamed-length slots owners zero = refl
 renamed-length slots owners (suc k) = simp (lengths, renamed-length slots owners k)
 
-nodes-shape : (s : Store) → SameShape s (nodesCompacted s)
+pub nodes-shape : (s : Store) → SameShape s (nodesCompacted s)
 unfolding nodesCompacted compactedSlots
 nodes-shape s = record { slots = simp (lengths, packed-length); links = refl; owners = simp renamed-length; heads = refl }
 
 -- The same of the ports' compaction: a port that moves down,
-links-length : (owners links : List ℕ) (p : ℕ) → length (packedLinks owners links p) ≡ length links
+pub links-length : (owners links : List ℕ) (p : ℕ) → length (packedLinks owners links p) ≡ length links
 unfolding packedLinks
 links-length owners links zero = refl
 links-length owners links (suc p) = simp (lengths, moved-length, links-length owners links p)
 
 -- its owner word,
-packed-owners-length : (owners : List ℕ) (p : ℕ) → length (packedOwners owners p) ≡ length owners
+pub packed-owners-length : (owners : List ℕ) (p : ℕ) → length (packedOwners owners p) ≡ length owners
 unfolding packedOwners
 packed-owners-length owners zero = refl
 packed-owners-length owners (suc p) = simp (lengths, packed-owners-length owners p)
 
 -- the slots that follow,
-followed-length : (slots owners : List ℕ) (p : ℕ) → length (followedSlots slots owners p) ≡ length slots
+pub followed-length : (slots owners : List ℕ) (p : ℕ) → length (followedSlots slots owners p) ≡ length slots
 unfolding followedSlots followed
 followed-length slots owners zero = refl
 followed-length slots owners (suc p) = simp (lengths, followed-length slots owners p)
 
 -- and those that have no port left.
-dropped-length : (slots : List ℕ) (k : ℕ) → length (slabsDropped slots k) ≡ length slots
+pub dropped-length : (slots : List ℕ) (k : ℕ) → length (slabsDropped slots k) ≡ length slots
 unfolding slabsDropped slabDropped
 dropped-length slots zero = refl
 dropped-length slots (suc k) = simp (lengths, dropped-length slots k)
 
-ports-shape : (s : Store) → SameShape s (portsCompacted s)
+pub ports-shape : (s : Store) → SameShape s (portsCompacted s)
 unfolding portsCompacted emptiedAbove
 ports-shape s =
     record {
