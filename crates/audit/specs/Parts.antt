@@ -61,11 +61,15 @@ pub record FreeChainHolds (slots : List ℕ) (c : Counters) : Type 0 where
   pub nodes : c .nodes ≡ liveSlots slots (c .nodemark)
   pub walked : Walk slots (c .nodemark) (c .freeslot) 0 (c .nodemark - liveSlots slots (c .nodemark))
 
--- rules 4, 5 and 6 for the slab of one live slot: it ends at or below the mark, its owner words are right, its spare ports have no links
-pub record HeldSlab (links owners : List ℕ) (mark node : ℕ) (m : NodeMeta) : Type 0 where
-  pub ends : m .first + m .capacity ≤ mark
+-- rules 5 and 6 for the slab of one live slot: its owner words are right, its spare ports have no links
+pub record HeldWords (links owners : List ℕ) (node : ℕ) (m : NodeMeta) : Type 0 where
   pub owned : Owned owners node m
   pub spare-loose : RunIs links (m .first + (m .inlets + m .outlets)) (m .capacity - (m .inlets + m .outlets)) 0
+
+-- with rule 4: it ends at or below the mark
+pub record HeldSlab (links owners : List ℕ) (mark node : ℕ) (m : NodeMeta) : Type 0 where
+  pub ends : m .first + m .capacity ≤ mark
+  pub words : HeldWords links owners node m
 
 -- the same for one free slab
 pub record FreeSlab (links owners : List ℕ) (mark first size : ℕ) : Type 0 where

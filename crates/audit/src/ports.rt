@@ -1,44 +1,28 @@
 // Rules 4 to 7 over the ports: every port below the mark is claimed once, by a live slot or by a free slab.
 ghost use mathlib.Core.Path.{_≡_};
-ghost use Prim.Native.Nat.{_*_, _≤_, _<_};
+ghost use Prim.Native.Nat.{_+_, _*_, _≤_, _<_};
 ghost use lib.ListN.{length, getD};
 ghost use Rattle.slabs.specs.PortEntry.{Live, directionOf};
 ghost use Rattle.slabs.specs.NodeEntry.{width};
 ghost use Rattle.sound.specs.Sound.{LiveSlot};
 ghost use Rattle.audit.specs.Decides.{Decides};
-ghost use Rattle.audit.specs.Parts.{CanClaim, SlabClaimed, HeldSlab, FreeSlab, SlotsHold, BlankFrom, HeldClaimed, Tally, ChainClaimed, FreeClaimed, TiledHolds, MateHolds, PortsHold};
+ghost use Rattle.audit.specs.Parts.{CanClaim, SlabClaimed, HeldWords, HeldSlab, FreeSlab, SlotsHold, BlankFrom, HeldClaimed, Tally, ChainClaimed, FreeClaimed, TiledHolds, MateHolds, PortsHold};
 use crate::words;
 use slabs::counters::Counters;
 use slabs::node_entry::NodeEntry;
 use slabs::node_entry::NodeMeta;
 use slabs::port_entry::PortEntry;
 
-// The slab of a live slot: inside the mark, claimed, its owner words right, its spare ports without links.
-fn held_slab_holds(
-    links: &[u32],
-    owners: &[u32],
-    scratch: &mut [u32],
-    mark: u32,
-    node: u32,
-    meta: NodeMeta,
-) -> bool
-    requires { ⌜ CanClaim (now links) (now owners) (now scratch) mark × (node < 65536) × LiveSlot 32768 meta ⌝ }
-    ensures { λ r. ⌜ SlabClaimed (HeldSlab (now (links .entry)) (now (owners .entry)) mark node meta) (now (scratch .entry)) (meta .first) (meta .capacity) (now (scratch .exit)) r ⌝ }
+// The words of a live slot's slab: the owner words of its inlets and outlets, and zeros at its spare ports.
+fn held_words_hold(links: &[u32], owners: &[u32], node: u32, meta: NodeMeta) -> bool
+    requires { ⌜ (meta .first + meta .capacity ≤ length (now links)) × (meta .first + meta .capacity ≤ length (now owners)) × (meta .inlets + meta .outlets ≤ meta .capacity) × (node < 65536) ⌝ }
+    ensures { λ r. ⌜ Decides r (HeldWords (now (links .entry)) (now (owners .entry)) node meta) ⌝ }
 {
-    if mark < meta.capacity {
-        return false;
-    }
-    if mark - meta.capacity < meta.first {
-        return false;
-    }
     let first = meta.first as usize;
     let inlets = meta.inlets as usize;
     let outlets = meta.outlets as usize;
     let used = inlets + outlets;
     let spare = meta.capacity as usize - used;
-    if !words::claim(scratch, first, meta.capacity as usize) {
-        return false;
-    }
     if !words::run_is(
         owners,
         first,
@@ -59,6 +43,30 @@ fn held_slab_holds(
         return false;
     }
     words::run_is(links, first + used, spare, 0)
+}
+
+// The slab of a live slot: inside the mark, claimed, its owner words right, its spare ports without links.
+fn held_slab_holds(
+    links: &[u32],
+    owners: &[u32],
+    scratch: &mut [u32],
+    mark: u32,
+    node: u32,
+    meta: NodeMeta,
+) -> bool
+    requires { ⌜ CanClaim (now links) (now owners) (now scratch) mark × (node < 65536) × LiveSlot 32768 meta ⌝ }
+    ensures { λ r. ⌜ SlabClaimed (HeldSlab (now (links .entry)) (now (owners .entry)) mark node meta) (now (scratch .entry)) (meta .first) (meta .capacity) (now (scratch .exit)) r ⌝ }
+{
+    if mark < meta.capacity {
+        return false;
+    }
+    if mark - meta.capacity < meta.first {
+        return false;
+    }
+    if !words::claim(scratch, meta.first as usize, meta.capacity as usize) {
+        return false;
+    }
+    held_words_hold(links, owners, node, meta)
 }
 
 // A free slab: inside the mark, claimed, nobody's, and without links but for its chain word.
@@ -88,7 +96,7 @@ fn free_slab_holds(
     words::run_is(links, first as usize + 1, size as usize - 1, 0)
 }
 
-// The slabs of all live slots; says how many ports they claim, or more than there are where one does not hold.
+// The slabs of all live slots: whether all hold and none meets another, and how many ports they claim.
 fn held_slabs(
     slots: &[u32],
     links: &[u32],

@@ -1,2 +1,3 @@
 -- The laws that the proofs of the dispatch cite.
 pub mod BecameLaws
+pub mod DispatchLaws
