@@ -161,6 +161,9 @@ fn call_resize(
         call.b,
         call.c,
     );
+    if !is_done(answer) {
+        return give(answer, counters, to);
+    }
     let entry = node_at(slots, counters.nodemark, call.a);
     let NodeEntry::Node(meta) = entry else {
         return give(answer, counters, to);

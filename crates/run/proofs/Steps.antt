@@ -150,7 +150,6 @@ unfolding stepped oneMore
 stepped-shaped s calls answers log shaped zero = shaped
 stepped-shaped s calls answers log shaped (suc n) = call-shaped _ _ _ (stepped-shaped s calls answers log shaped n)
 
-
 module _ (s : Store) (calls answers log : List ℕ) (shaped : Shaped s) (sound : Sound s) where
   -- The store stays sound,
   pub stepped-sound : (n : ℕ) → Sound (stepped s calls answers log n .store)

@@ -10,7 +10,6 @@ use Rattle.run.proofs.Steps.{Stands, stands-first, stands-next, stands-
 use Rattle.run.proofs.answer_calls.Statement.{statement}
 use Rattle.run.proofs.answer_calls.Tie as tie
 
-
 abbrev Inv-loop : tie.InvT-loop
 Inv-loop slots₀ links₀ owners₀ heads₀ calls answers₀ log₀ after₀ at₀ i₀ slots links owners heads answers log after at i =
     Stands (storeOf slots₀ links₀ owners₀ heads₀ after₀) calls answers₀ log₀ (storeOf slots links owners heads after) answers log at i
