@@ -1,8 +1,8 @@
 -- Which definition a call's number picks.
-use Prim.Native.Nat.{ℕ, _<_, _≤_}
-use mathlib.Core.Path.{_≡_, refl, sym, subst}
+use Prim.Native.Nat.{ℕ}
+use mathlib.Core.Path.{_≡_, sym, subst}
 use mathlib.Core.List.{List, []}
-use borrow.Author.Tests.{eq-eqb, ne-eqb}
+use borrow.Author.Tests.{ne-eqb}
 use Rattle.edits.specs.Store.{Store}
 use Rattle.renumber.specs.declared.log.LogPlace.{LogPlace}
 use Rattle.calls.specs.Call.{After, Became, clearCall, addCall, removeCall, resizeCall, linkCall, unlinkCall, swapCall, compactNodesCall, compactPortsCall, question, callOf}

@@ -1,6 +1,9 @@
-// Lines of a session: a letter and up to four numbers, parted by tabs.
+// Lines of a session: a letter and so many numbers, each after a tab.
+ghost use Prim.Native.Nat.{_≤_, _<_};
+ghost use lib.ListN.{length};
 
-// A line that was read, and the place after it. Numbers that are not there are 0.
+// A line that was read, and the place after it. Numbers that its letter does not have are 0. A line without the
+// numbers of its letter has the letter 0: no line is meant by that, so it is skipped.
 pub struct Line {
     pub letter: u8,
     pub a: u32,
@@ -10,8 +13,27 @@ pub struct Line {
     pub next: usize,
 }
 
+// More numbers than any line has: what a line with a bad byte or a number that does not fit is said to have.
+const TOO_MANY: usize = 5;
+
+// How many numbers stand after a letter: none after a letter that means nothing.
+pub fn numbers_of(letter: u8) -> usize
+    ensures { λ r. ⌜ r ≤ 4 ⌝ }
+{
+    match letter {
+        b'S' => 4,
+        b'C' => 4,
+        b'W' => 3,
+        b'N' => 1,
+        _ => 0,
+    }
+}
+
 // Where the line that starts at `at` ends: its newline, or the end of the text.
-fn line_end(text: &[u8], at: usize) -> usize {
+fn line_end(text: &[u8], at: usize) -> usize
+    requires { ⌜ at ≤ length (now text) ⌝ }
+    ensures { λ r. ⌜ (at ≤ r) × (r ≤ length (now (text .entry))) ⌝ }
+{
     let mut i = at;
     while i < text.len() {
         if text[i] == b'\n' {
@@ -22,117 +44,65 @@ fn line_end(text: &[u8], at: usize) -> usize {
     i
 }
 
-// One digit more, wrapping where the number does not fit.
-fn with_digit(x: u32, byte: u8) -> u32 {
+// A number with one digit more. It is past every word where the byte is no digit.
+fn with_digit(x: u32, byte: u8) -> u64 {
     if byte < b'0' {
-        return x;
+        return 0x1_0000_0000;
     }
     if b'9' < byte {
-        return x;
+        return 0x1_0000_0000;
     }
-    let wide = x as u64 * 10 + (byte - b'0') as u64;
-    (wide % 0x1_0000_0000) as u32
+    x as u64 * 10 + (byte - b'0') as u64
 }
 
-// Number k of a line, counted from 1: what stands after its kth tab.
-fn number(text: &[u8], at: usize, end: usize, k: u32) -> u32 {
-    let mut x: u32 = 0;
-    let mut tabs: u32 = 0;
-    let mut i = at;
+// Reads the numbers from `from` to the line's end, each after a tab, and says how many there are. No digits at all
+// count as 0.
+fn read_numbers(text: &[u8], from: usize, end: usize, words: &mut [u32; 4]) -> usize
+    requires { ⌜ end ≤ length (now text) ⌝ }
+{
+    let mut count: usize = 0;
+    let mut i = from;
     while i < end {
         let byte = text[i];
         if byte == b'\t' {
-            if tabs < k {
-                tabs += 1;
-            } else {
-                return x;
+            if 4 <= count {
+                return TOO_MANY;
             }
-        } else if tabs == k {
-            x = with_digit(x, byte);
+            words[count] = 0;
+            count += 1;
+        } else {
+            if count == 0 {
+                return TOO_MANY;
+            }
+            let wide = with_digit(words[count - 1], byte);
+            if 0xffff_ffff < wide {
+                return TOO_MANY;
+            }
+            words[count - 1] = wide as u32;
         }
         i += 1;
     }
-    x
+    count
 }
 
 // The line that starts at `at`.
-pub fn read_line(text: &[u8], at: usize) -> Line {
+pub fn read_line(text: &[u8], at: usize) -> Line
+    requires { ⌜ at < length (now text) ⌝ }
+    ensures { λ r. ⌜ (at < r .next) × (r .next ≤ length (now (text .entry))) ⌝ }
+{
+    let mut words = [0u32; 4];
     let end = line_end(text, at);
+    let count = read_numbers(text, at + 1, end, &mut words);
+    let mut letter = text[at];
+    if count != numbers_of(letter) {
+        letter = 0;
+    }
     Line {
-        letter: text[at],
-        a: number(text, at, end, 1),
-        b: number(text, at, end, 2),
-        c: number(text, at, end, 3),
-        d: number(text, at, end, 4),
-        next: end + 1,
+        letter,
+        a: words[0],
+        b: words[1],
+        c: words[2],
+        d: words[3],
+        next: if end < text.len() { end + 1 } else { end },
     }
-}
-
-// Writes one byte where there is room, and says where the next goes.
-fn put(out: &mut [u8; 64], at: usize, byte: u8) -> usize {
-    if at < 64 {
-        out[at] = byte;
-        return at + 1;
-    }
-    at
-}
-
-// Writes a number by its digits, the power of ten of its first digit being `power`.
-fn put_digits(out: &mut [u8; 64], from: usize, x: u32, power: u32) -> usize {
-    let mut at = from;
-    let mut p = power;
-    while 0 < p {
-        let digit = x / p % 10;
-        at = put(out, at, digit as u8 + b'0');
-        p = p / 10;
-    }
-    at
-}
-
-// The power of ten of a number's first digit.
-fn first_power(x: u32) -> u32 {
-    let mut p: u32 = 1;
-    while p <= x / 10 {
-        p = p * 10;
-    }
-    p
-}
-
-fn put_field(out: &mut [u8; 64], at: usize, x: u32) -> usize {
-    let next = put(out, at, b'\t');
-    put_digits(out, next, x, first_power(x))
-}
-
-// Prints a letter with one number.
-pub fn print1(letter: u8, a: u32) {
-    let mut out = [0u8; 64];
-    let i = put(&mut out, 0, letter);
-    let j = put_field(&mut out, i, a);
-    let k = put(&mut out, j, b'\n');
-    io::write_all(1, &out[..k]);
-}
-
-// Prints a letter with four numbers.
-pub fn print4(letter: u8, a: u32, b: u32, c: u32, d: u32) {
-    let mut out = [0u8; 64];
-    let i = put(&mut out, 0, letter);
-    let j = put_field(&mut out, i, a);
-    let k = put_field(&mut out, j, b);
-    let l = put_field(&mut out, k, c);
-    let m = put_field(&mut out, l, d);
-    let n = put(&mut out, m, b'\n');
-    io::write_all(1, &out[..n]);
-}
-
-// Prints a letter with five numbers.
-pub fn print5(letter: u8, a: u32, b: u32, c: u32, d: u32, e: u32) {
-    let mut out = [0u8; 64];
-    let i = put(&mut out, 0, letter);
-    let j = put_field(&mut out, i, a);
-    let k = put_field(&mut out, j, b);
-    let l = put_field(&mut out, k, c);
-    let m = put_field(&mut out, l, d);
-    let n = put_field(&mut out, m, e);
-    let o = put(&mut out, n, b'\n');
-    io::write_all(1, &out[..o]);
 }

@@ -1,12 +1,12 @@
 -- A sound store in the parts that the edits keep: what the slab part promises takes the place of rule 4 and of what rules 1, 5 and 6 say of
 -- ports that no step holds.
-use Prim.Native.Nat.{ℕ, _+_, _*_, _≤_, _<_}
+use Prim.Native.Nat.{ℕ, _*_, _≤_, _<_}
 use mathlib.Core.Path.{_≡_}
 use native.Mathlib.Omega.{arith}
 use lib.ListN.{length, getD}
 use Rattle.slabs.specs.NodeEntry.{width, nodeEntry}
 use Rattle.slabs.specs.Links.{Wiring}
-use Rattle.slabs.specs.Slabs.{Slabs, freeAt, startsAt}
+use Rattle.slabs.specs.Slabs.{Slabs, startsAt}
 use Rattle.slabs.specs.declared.node_entry.NodeMeta.{NodeMeta}
 use Rattle.slabs.specs.declared.node_entry.NodeEntry.the-variants.{Node}
 use Rattle.slabs.proofs.SlabLaws.{starts-free}

@@ -1,3 +1,0 @@
--- The desk's text, in and out.
-pub mod Decimal
-pub mod Lines
