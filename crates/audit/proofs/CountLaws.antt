@@ -17,12 +17,7 @@ use Rattle.slabs.proofs.SumLaws.{sum-le}
 use Rattle.slabs.proofs.EntryLaws.{direction-le}
 use Rattle.slabs.proofs.WireLaws.{wired-loose}
 use Rattle.edits.specs.Counts.{some, liveSlots, livePorts}
-
--- A sum of n terms, each at most 1, is at most n.
-pub sum-ones : (f : ℕ → ℕ) (n : ℕ) → ((i : ℕ) → f i ≤ 1) → sum f n ≤ n
-unfolding sum
-sum-ones f zero h = omega arith
-sum-ones f (suc n) h = omega (arith, sum-ones f n h, h n)
+use Rattle.edits.proofs.CountLaws.{count-le}
 
 -- Terms that are no greater and add up to as much are equal.
 pub sum-pinned : (f g : ℕ → ℕ) (n : ℕ) → ((i : ℕ) → i < n → f i ≤ g i) → sum f n ≡ sum g n → (i : ℕ) → i < n → f i ≡ g i
@@ -43,15 +38,6 @@ unfolding sum
 sum-both f g zero h = refl
 sum-both f g (suc n) h = omega (arith, sum-both f g n (λ i l. h i (omega arith)), h n (omega arith))
 
--- A word counts for one at most.
-pub some-le : (word : ℕ) → some word ≤ 1
-unfolding some
-some-le word = go (eqb word 0)
-  where
-    go : (t : Bool) → pick t 0 1 ≤ 1
-    go true = omega arith
-    go false = omega arith
-
 -- A word of 0 counts for none,
 pub some-none : (word : ℕ) → word ≡ 0 → some word ≡ 0
 unfolding some
@@ -71,16 +57,6 @@ liveSlots-suc slots k = refl
 pub livePorts-suc : (owners : List ℕ) (p : ℕ) → livePorts owners (suc p) ≡ livePorts owners p + some (getD owners p 0)
 unfolding livePorts sum
 livePorts-suc owners p = refl
-
--- So there are at most k live slots below slot k,
-pub liveSlots-le : (slots : List ℕ) (k : ℕ) → liveSlots slots k ≤ k
-unfolding liveSlots
-liveSlots-le slots k = sum-ones (λ j. some (slotWord slots j 1)) k (λ j. some-le (slotWord slots j 1))
-
--- and at most p live ports below port p.
-pub livePorts-le : (owners : List ℕ) (p : ℕ) → livePorts owners p ≤ p
-unfolding livePorts
-livePorts-le owners p = sum-ones (λ q. some (getD owners q 0)) p (λ q. some-le (getD owners q 0))
 
 -- A free port is no wired outlet,
 pub outlet-free : (owner link : ℕ) → owner ≡ 0 → wiredOutlet owner link ≡ 0
@@ -106,7 +82,7 @@ pairs-suc owners links p = refl
 pub pairs-le : (owners links : List ℕ) (p : ℕ) → pairs owners links p ≤ p
 unfolding pairs wiredOutlet
 pairs-le owners links p =
-    sum-ones (λ q. wiredOutlet (getD owners q 0) (getD links q 0)) p (λ q. go (eqb (getD owners q 0) 0) (eqb (getD links q 0) 0) (direction-le (getD owners q 0)))
+    count-le (λ q. wiredOutlet (getD owners q 0) (getD links q 0)) p (λ q. go (eqb (getD owners q 0) 0) (eqb (getD links q 0) 0) (direction-le (getD owners q 0)))
   where
     go : (t u : Bool) {d : ℕ} → d ≤ 1 → pick t 0 (pick u 0 d) ≤ 1
     go true u h = omega arith

@@ -17,7 +17,8 @@ use Rattle.slabs.proofs.SlabLaws.{inSlab-yes, inSlab-below, inSlab-above, inSla
 use Rattle.edits.specs.Store.{onNode}
 use Rattle.sound.specs.Sound.{heldAt}
 use Rattle.audit.specs.Parts.{RunIs, BlankFrom, Tally}
-use Rattle.audit.proofs.CountLaws.{sum-ones, sum-pinned}
+use Rattle.edits.proofs.CountLaws.{count-le}
+use Rattle.audit.proofs.CountLaws.{sum-pinned}
 
 -- A sum to a lower bound is no greater.
 pub sum-short : (f : ℕ → ℕ) (k n : ℕ) → k ≤ n → sum f k ≤ sum f n
@@ -90,7 +91,7 @@ tally-more scratch mark ports first n t free ends reach = record { at-most-once 
 
 -- No more ports are counted than there are below the mark,
 pub tally-le : {scratch : List ℕ} {mark ports : ℕ} → Tally scratch mark ports → ports ≤ mark
-tally-le {scratch} {mark} t = omega (arith, t .counted, sum-ones (λ p. getD scratch p 0) mark (t .at-most-once))
+tally-le {scratch} {mark} t = omega (arith, t .counted, count-le (λ p. getD scratch p 0) mark (t .at-most-once))
 
 -- also with a slab that is to be claimed;
 pub tally-room : (scratch : List ℕ) (mark ports first n : ℕ) → Tally scratch mark ports → RunIs scratch first n 0 → first + n ≤ mark

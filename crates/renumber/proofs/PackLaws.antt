@@ -33,6 +33,7 @@ use Rattle.renumber.specs.Packing.{PackedNodes, PackedPorts}
 use Rattle.renumber.specs.declared.log.LogPlace.{LogPlace}
 use Rattle.renumber.proofs.RecordLaws.{logged-length, logged-snoc}
 use Rattle.renumber.proofs.MoveLaws.{moved-length, moved-inside}
+use Rattle.edits.proofs.CountLaws.{liveSlots-le, livePorts-le}
 
 -- What holds in both cases of a choice by an entry holds of the choice,
 on-entry : {A : Type 0} (P : A → Type 0) (e : NodeEntry) (live : NodeMeta → A) (other : A)
@@ -66,16 +67,7 @@ port-none w e = go (ℕ-discrete w 0)
     go (yes z) = z
     go (no d) = absurd (let c : _≡_ {A = ℕ} 0 1 = cc (rw (ne-eqb w 0 d) at e) in omega arith)
 
--- A word counts as live 1 at most.
-pub some-le : (w : ℕ) → some w ≤ 1
-unfolding some
-some-le w = go (eqb w 0)
-  where
-    go : (t : Bool) → pick t 0 1 ≤ 1
-    go true = omega arith
-    go false = omega arith
-
--- A count over more numbers is no less,
+-- A count over more numbers is no less.
 pub sum-grows : (f : ℕ → ℕ) (n m : ℕ) → n ≤ m → sum f n ≤ sum f m
 unfolding sum
 sum-grows f n zero h = let e : n ≡ 0 = omega arith in rw e (omega arith)
@@ -84,22 +76,6 @@ sum-grows f n (suc m) h = go (ℕ-discrete n (suc m)) (λ (b : n ≤ m). sum-gro
     go : Dec (n ≡ suc m) → (n ≤ m → sum f n ≤ sum f m) → sum f n ≤ sum f m + f m
     go (yes e) below = rw e (omega arith)
     go (no d) below = omega (arith, below (omega arith))
-
--- and a count of what is 1 at most is no more than the bound.
-pub sum-below : (f : ℕ → ℕ) (n : ℕ) → ((i : ℕ) → f i ≤ 1) → sum f n ≤ n
-unfolding sum
-sum-below f zero h = omega arith
-sum-below f (suc n) h = omega (arith, sum-below f n h, h n)
-
--- So no more slots are live than there are,
-pub liveSlots-le : (slots : List ℕ) (k : ℕ) → liveSlots slots k ≤ k
-unfolding liveSlots
-liveSlots-le slots k = sum-below (λ j. some (slotWord slots j 1)) k (λ j. some-le (slotWord slots j 1))
-
--- nor more ports.
-pub livePorts-le : (owners : List ℕ) (p : ℕ) → livePorts owners p ≤ p
-unfolding livePorts
-livePorts-le owners p = sum-below (λ q. some (getD owners q 0)) p (λ q. some-le (getD owners q 0))
 
 -- The second word of a live slot counts 1,
 pub live-word : (slots : List ℕ) (k : ℕ) (m : NodeMeta) → nodeEntry slots k ≡ Node m → some (slotWord slots k 1) ≡ 1

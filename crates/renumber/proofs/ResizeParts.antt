@@ -21,7 +21,8 @@ use Rattle.renumber.specs.Room.{CutPorts, SmallChange, CanChange, CanCut
 use Rattle.renumber.specs.declared.log.LogPlace.{LogPlace}
 use Rattle.renumber.specs.declared.resize.Change.{Change}
 use Rattle.renumber.proofs.RecordLaws.{logged-length, removedRecords-length, movedRecords-length}
-use Rattle.renumber.proofs.PackLaws.{livePorts-le, fits-wider}
+use Rattle.renumber.proofs.PackLaws.{fits-wider}
+use Rattle.edits.proofs.CountLaws.{livePorts-le}
 use Rattle.renumber.proofs.ResizeLaws.{slabSize-some, slabSize-covers, in-place-fits, records-in-place, records-into, records-removed, cutRemoved-length, cutRemoved-inside, cutRecords-length, logged-after, takenLinks-length, takenLinks-inside, takenHeads-length, head-room, taken-room, movedInto-length, movedInto-inside}
 
 -- Cutting the removed inlets and then the removed outlets, with their records, is cutting the removed ports.

@@ -1,4 +1,4 @@
--- Every call, done or refused, leaves a sound store of well-shaped tables sound.
+-- That every call keeps a store sound, from what each of the ten leaves.
 use Prim.Native.Nat.{ℕ}
 use Rattle.edits.specs.Store.{Store}
 use Rattle.calls.specs.Call.{After, callOf}
@@ -13,6 +13,7 @@ use Rattle.sound.proofs.Resize.{resize-sound}
 use Rattle.sound.proofs.CompactNodes.{compact-nodes-sound}
 use Rattle.sound.proofs.CompactPorts.{compact-ports-sound}
 
+-- Every call keeps a sound store of well-shaped tables sound.
 pub call-sound : (s : Store) → Shaped s → Sound s → (left : ℕ) (call : Call) → Sound ((callOf s left call) .store)
 call-sound s shaped sound left call =
     each-call (λ (after : After). Sound (after .store)) s left call

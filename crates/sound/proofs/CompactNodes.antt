@@ -4,34 +4,34 @@ use Prim.Native.Nat.{ℕ, suc, zero, _+_, _-_, _*_, _≤_, _<_}
 use mathlib.Core.Path.{_≡_, refl, sym, ap, _∙_}
 use mathlib.Core.List.{List, []}
 use native.Mathlib.Omega.{arith}
-use native.Mathlib.Decide.{ℕ-discrete, decLt, decLe}
+use native.Mathlib.Decide.{ℕ-discrete, decLt}
 use lib.ListN.{length, getD}
 use Rattle.slabs.specs.NodeEntry.{width, slotWord, nodeEntry, setEntry}
 use Rattle.slabs.specs.Sums.{sum}
 use Rattle.slabs.specs.Slab.{ownersWritten, filled}
-use Rattle.slabs.specs.Slabs.{inSlab}
 use Rattle.slabs.specs.declared.node_entry.NodeMeta.{NodeMeta}
 use Rattle.slabs.specs.declared.node_entry.NodeEntry.{NodeEntry}
 use Rattle.slabs.specs.declared.node_entry.NodeEntry.the-variants.{Free, Node}
 use Rattle.slabs.proofs.SumLaws.{sum-ext}
-use Rattle.slabs.proofs.SlabLaws.{inSlab-yes, inSlab-le, inSlab-lies, held-le, slabs-kept, slabs-held}
-use Rattle.slabs.proofs.FillLaws.{filled-in, filled-below, filled-above, written-length}
+use Rattle.slabs.proofs.FillLaws.{filled-in, filled-below, filled-above}
 use Rattle.slabs.proofs.EntryLaws.{word-above, entry-same, entry-ext, entry-other}
 use Rattle.edits.specs.Store.{Store, onNode}
 use Rattle.edits.specs.Counts.{some, liveSlots}
 use Rattle.renumber.specs.Compact.{packedSlots, renamedOwners, compactedSlots, nodesCompacted}
 use Rattle.calls.specs.Call.{compactNodesCall}
 use Rattle.sound.specs.Sound.{Shaped, Sound, Owned, heldAt, heldIn}
-use Rattle.sound.proofs.Parts.{Parts, parts-of, sound-of}
-use Rattle.sound.proofs.Fits.{few-nodes, live-slot, slab-ends}
-use Rattle.sound.proofs.RenameLaws.{Renamed, same-port, same-port-then, renamed-wiring, renamed-pairs, renamed-ports}
-use Rattle.sound.proofs.SlotLaws.{slabOf, freeOne, entry-live, live-says, liveSlots-raise, heldAt-raise, slabs-two}
-use Rattle.sound.proofs.OwnerLaws.{sum-ones, some-none, some-one, owned-kept, owned-written, written-outside, owned-renamed}
-use Rattle.sound.proofs.CountLaws.{some-le, sum-past, sum-low, sum-onto}
+use Rattle.sound.proofs.Parts.{Parts, parts-of, sound-of, slot-table, port-table, parts-by}
+use Rattle.sound.proofs.Fits.{few-nodes, slab-inside, slabs-apart}
+use Rattle.sound.proofs.RenameLaws.{Renamed, same-port, same-port-then}
+use Rattle.sound.proofs.SlotLaws.{slabOf, freeOne, entry-live, live-says, liveSlots-raise, heldAt-raise, node-is, free-node}
+use Rattle.sound.proofs.OwnerLaws.{Rewritten, owned-rewritten}
+use Rattle.sound.proofs.CountLaws.{some-le, sum-past, sum-low, sum-onto, sum-ones, some-none, some-one}
 use Rattle.sound.proofs.Shapes.{SameShape, packed-length, nodes-shape}
 use Rattle.sound.proofs.Kept.{decided-store}
 use Rattle.sound.proofs.ChainLaws.{none-on}
-use Rattle.sound.proofs.FreeSlotLaws.{free-chain, freeOne-live, freeOne-above}
+use Rattle.sound.proofs.FreeSlotLaws.{freeOne-live, freeOne-above}
+use Rattle.sound.proofs.SlotTable.{live-slot}
+use Rattle.sound.proofs.PortTable.{table-held, table-renamed}
 
 -- Slots below the mark that say the same hold the same ports.
 pub heldAt-ext : (slots slots′ : List ℕ) (mark p : ℕ) → ((k : ℕ) → k < mark → nodeEntry slots′ k ≡ nodeEntry slots k) → heldAt slots′ mark p ≡ heldAt slots mark p
@@ -192,16 +192,6 @@ module _ (slots : List ℕ) (mark : ℕ) (room : width * mark ≤ length slots) 
   compacted-count =
       sum-ones (λ k. some (slotWord (compactedSlots slots mark) k 1)) (liveSlots slots mark) (λ k l. some-one _ (compacted-live k l))
 
--- A part of a slab lies in it.
-pub inSlab-part : (first n size p : ℕ) → n ≤ size → inSlab first n p ≤ inSlab first size p
-inSlab-part first n size p h = go (decLe 1 (inSlab first n p))
-  where
-    go : Dec (1 ≤ inSlab first n p) → inSlab first n p ≤ inSlab first size p
-    go (yes l) =
-        let (low, high) = inSlab-lies first n p l in
-        omega (arith, inSlab-le first n p, inSlab-yes first size p low (omega arith))
-    go (no l) = omega arith
-
 -- What the owner words say once those of the live slots below k are renamed: each port is live as before and faces the same way, and is
 -- owned by the new number of its slot below k, and by the old one from k on.
 pub record RenamedTo (s : Store) (owners : List ℕ) (k : ℕ) : Type 0 where
@@ -211,55 +201,41 @@ pub record RenamedTo (s : Store) (owners : List ℕ) (k : ℕ) : Type 0 where
   pub rest : (j : ℕ) (m : NodeMeta) → k ≤ j → j < s .counters .nodemark → nodeEntry (s .slots) j ≡ Node m → Owned owners j m
 
 module _ (s : Store) (shaped : Shaped s) (sound : Sound s) where
-  -- Two live slots have no port in common.
-  pub slabs-apart : (k j : ℕ) (m n : NodeMeta) → k < s .counters .nodemark → j < s .counters .nodemark → (k ≡ j → ⊥)
-      → nodeEntry (s .slots) k ≡ Node m → nodeEntry (s .slots) j ≡ Node n
-      → (p : ℕ) → 1 ≤ inSlab (n .first) (n .capacity) p → inSlab (m .first) (m .capacity) p ≡ 0
-  slabs-apart k j m n lk lj d is is′ p h =
-      let P : Parts s = parts-of s shaped sound in
-      omega (arith, rw (is, is′) at (slabs-two (s .slots) (s .counters .nodemark) k j p lk lj d), held-le (P .slabs) p)
-
   -- One step: slot k is live,
   renamed-live : (owners : List ℕ) (k : ℕ) (m : NodeMeta) → k < s .counters .nodemark → nodeEntry (s .slots) k ≡ Node m → RenamedTo s owners k
       → RenamedTo s (ownersWritten owners (liveSlots (s .slots) k) (m .first) (m .inlets) (m .outlets)) (suc k)
   renamed-live owners k m l is so-far =
       record {
-        same = λ p. same-port-then (so-far .same p) (owned-renamed here new (omega (arith, few)) (omega (arith, few, slot-low (s .slots) k)) fits p);
-        long = written-length owners new (m .first) (m .inlets) (m .outlets) ∙ so-far .long;
+        same = λ p. same-port-then (so-far .same p) (rewritten .renamed p);
+        long = rewritten .length-kept ∙ so-far .long;
         done = λ j n b is′. done j n b is′ (ℕ-discrete j k);
         rest = λ j n b lj is′. kept j j n lj (omega arith) is′ (so-far .rest j n (omega arith) lj is′);
       }
     where
+      P : Parts s
+      P = parts-of s shaped sound
+
       new : ℕ
       new = liveSlots (s .slots) k
+
+      owners′ : List ℕ
+      owners′ = ownersWritten owners new (m .first) (m .inlets) (m .outlets)
 
       few : s .counters .nodemark ≤ 65536
       few = few-nodes s shaped sound
 
-      here : Owned owners k m
-      here = so-far .rest k m (omega arith) l is
+      rewritten : Rewritten owners owners′ new m
+      rewritten =
+          owned-rewritten (so-far .rest k m (omega arith) l is) new (omega (arith, few)) (omega (arith, few, slot-low (s .slots) k))
+          (live-slot (slot-table s P) k m l is .fit) (omega (arith, so-far .long, slab-inside s P k m l is))
 
-      fit : m .inlets + m .outlets ≤ m .capacity
-      fit = live-slot s sound k m l is .fit
-
-      fits : m .first + m .inlets + m .outlets ≤ length owners
-      fits =
-          omega (arith, fit, so-far .long, slab-ends s (parts-of s shaped sound) k m l is, sound .marks .ports-inside, shaped .equal)
-
-      kept : (j k′ : ℕ) (n : NodeMeta) → j < s .counters .nodemark → (j ≡ k → ⊥) → nodeEntry (s .slots) j ≡ Node n → Owned owners k′ n
-          → Owned (ownersWritten owners new (m .first) (m .inlets) (m .outlets)) k′ n
+      kept : (j k′ : ℕ) (n : NodeMeta) → j < s .counters .nodemark → (j ≡ k → ⊥) → nodeEntry (s .slots) j ≡ Node n → Owned owners k′ n → Owned owners′ k′ n
       kept j k′ n lj d is′ o =
-          owned-kept o (ownersWritten owners new (m .first) (m .inlets) (m .outlets)) (live-slot s sound j n lj is′ .fit)
-          (λ p h.
-          written-outside owners new (m .first) (m .inlets) (m .outlets) p
-          (omega (arith, inSlab-part (m .first) (m .inlets + m .outlets) (m .capacity) p fit, slabs-apart k j m n l lj (λ e. d (sym e)) is is′ p h)))
+          rewritten .others k′ n o (live-slot (slot-table s P) j n lj is′ .fit) (slabs-apart s P k j m n l lj (λ e. d (sym e)) is is′)
 
-      done : (j : ℕ) (n : NodeMeta) → j < suc k → nodeEntry (s .slots) j ≡ Node n → Dec (j ≡ k)
-          → Owned (ownersWritten owners new (m .first) (m .inlets) (m .outlets)) (liveSlots (s .slots) j) n
+      done : (j : ℕ) (n : NodeMeta) → j < suc k → nodeEntry (s .slots) j ≡ Node n → Dec (j ≡ k) → Owned owners′ (liveSlots (s .slots) j) n
       done j n b is′ (yes e) =
-          let here′ : nodeEntry (s .slots) k ≡ Node n = rw e at is′ in
-          let same : n ≡ m = cc in
-          rw (e, same) (owned-written owners new m fits (here .spare-unowned))
+          rw (e, node-is (sym (rw e at is′) ∙ is)) (rewritten .owned)
       done j n b is′ (no d) = kept j (liveSlots (s .slots) j) n (omega arith) d is′ (so-far .done j n (omega arith) is′)
 
   -- or free.
@@ -273,9 +249,7 @@ module _ (s : Store) (shaped : Shaped s) (sound : Sound s) where
       }
     where
       live : (j : ℕ) (n : NodeMeta) → nodeEntry (s .slots) j ≡ Node n → j ≡ k → ⊥
-      live j n is′ e =
-          let here : nodeEntry (s .slots) k ≡ Node n = rw e at is′ in
-          let z : _≡_ {A = ℕ} 0 1 = cc in omega arith
+      live j n is′ e = free-node (sym is ∙ rw e at is′)
 
   -- So the owner words of all live slots are renamed.
   pub renamed-to : (k : ℕ) → k ≤ s .counters .nodemark → RenamedTo s (renamedOwners (s .slots) (s .owners) k) k
@@ -301,29 +275,21 @@ module _ (s : Store) (shaped : Shaped s) (sound : Sound s) where
   unfolding nodesCompacted
   nodes-compacted-sound =
       sound-of (nodesCompacted s)
+      (parts-by (nodesCompacted s)
       (record {
-        node-room = omega (arith, count, slot-low (s .slots) mark, shape .slots, P .node-room);
-        slots-blank = λ i h. compacted-blank (s .slots) mark (P .node-room) (P .slots-blank) i (rw count at h);
-        slots = λ k l. let c = came k l in rw (came-entry (s .slots) mark (P .node-room) k c) (live-slot s sound (c .from) (c .meta) (c .below) (c .is));
-        free-chain =
-            free-chain (nodesCompacted s)
-            (record { chain = []; forward = refl; backward = tt; each-once = λ k. none-on k ∙ sym (none-free k (decLt k (s .counters .nodes))) });
-        slabs =
-            slabs-held
-            (slabs-kept (P .slabs) (s .links) owners refl (renamed .long) (λ p h. refl) (λ p h. renamed .same p .dead (P .slabs .bare p h) ∙ sym (P .slabs .bare p h)))
-            (λ p. sym (held p));
-        owned = λ k l m is.
+        room = omega (arith, count, slot-low (s .slots) mark, shape .slots, P .node-room);
+        blank = λ i h. compacted-blank (s .slots) mark (P .node-room) (P .slots-blank) i (rw count at h);
+        says = λ k l.
             let c = came k l in
-            let same : c .meta ≡ m = from-node (sym (came-entry (s .slots) mark (P .node-room) k c) ∙ is) in
-            rw (← c .to, ← same) (renamed .done (c .from) (c .meta) (c .below) (c .is));
-        wiring = λ p q h. renamed-wiring (s .owners) owners (renamed .same) (s .links) (heldIn s) (P .wiring) p q (rw (held p) at h);
-        counted =
-            record {
-              nodes = rw count (sym (compacted-count (s .slots) mark (P .node-room)));
-              ports = P .counted .ports ∙ sym (renamed-ports (s .owners) owners (renamed .same) (s .counters .portmark));
-              links = P .counted .links ∙ sym (renamed-pairs (s .owners) owners (renamed .same) (s .links) (s .counters .portmark));
-            };
+            rw (came-entry (s .slots) mark (P .node-room) k c) (live-slot (slot-table s P) (c .from) (c .meta) (c .below) (c .is));
+        counted = rw count (sym (compacted-count (s .slots) mark (P .node-room)));
       })
+      (record { chain = []; forward = refl; backward = tt; each-once = λ k. none-on k ∙ sym (none-free k (decLt k (s .counters .nodes))) })
+      (table-held (table-renamed (port-table s P) owners (renamed .long) (renamed .same)) (λ p. sym (held p)))
+      (λ k l m is.
+      let c = came k l in
+      let same : c .meta ≡ m = node-is (sym (came-entry (s .slots) mark (P .node-room) k c) ∙ is) in
+      rw (← c .to, ← same) (renamed .done (c .from) (c .meta) (c .below) (c .is))))
     where
       P : Parts s
       P = parts-of s shaped sound
@@ -348,9 +314,6 @@ module _ (s : Store) (shaped : Shaped s) (sound : Sound s) where
 
       held : (p : ℕ) → heldAt (compactedSlots (s .slots) mark) (s .counters .nodes) p ≡ heldIn s p
       held p = rw count (compacted-held (s .slots) mark (P .node-room) p)
-
-      from-node : {m n : NodeMeta} → Node m ≡ Node n → m ≡ n
-      from-node e = cc
 
       none-free : (k : ℕ) → Dec (k < s .counters .nodes) → freeOne (compactedSlots (s .slots) mark) (s .counters .nodes) k ≡ 0
       none-free k (yes l) =

@@ -23,16 +23,17 @@ use Rattle.edits.specs.Counts.{some, liveSlots, livePorts}
 use Rattle.renumber.specs.Compact.{portsCompacted}
 use Rattle.calls.specs.Call.{compactPortsCall}
 use Rattle.sound.specs.Sound.{Shaped, Sound, SlotSays, Owned, heldAt, heldIn}
-use Rattle.sound.proofs.Parts.{Parts, parts-of, sound-of}
-use Rattle.sound.proofs.Fits.{live-held, live-slot, slab-ends}
-use Rattle.sound.proofs.SlotLaws.{slabOf, liveOf, freeOne, free-says, some-live}
-use Rattle.sound.proofs.OwnerLaws.{owned-port}
+use Rattle.sound.proofs.Parts.{Parts, parts-of, sound-of, slot-table}
+use Rattle.sound.proofs.Fits.{live-held, slab-ends}
+use Rattle.sound.proofs.SlotLaws.{slabOf, freeOne, free-says, some-live, node-is, free-node}
+use Rattle.sound.proofs.OwnerLaws.{owned-port, owned-few}
 use Rattle.sound.proofs.Kept.{zeros, decided-store}
 use Rattle.sound.proofs.Shapes.{SameShape, ports-shape}
-use Rattle.sound.proofs.MoveLaws.{LiveWiring, rekeyed-wiring}
+use Rattle.sound.proofs.MoveLaws.{LiveWiring, rekeyed-wiring, live-wiring}
 use Rattle.sound.proofs.PortPacking.{port-low, port-rises, port-apart, port-onto, port-run, PortsDown, ports-down, down-live, down-ports}
-use Rattle.sound.proofs.SlabPacking.{tight, tightEntry, free-aside, SlabsDown, slabs-down, port-of}
+use Rattle.sound.proofs.SlabPacking.{tight, tightEntry, free-aside, SlabsDown, slabs-down}
 use Rattle.sound.proofs.FreeSlotLaws.{slot-chain, free-chain, freeOne-above, slot-chain-kept}
+use Rattle.sound.proofs.SlotTable.{live-slot}
 
 -- Two numbers that are 0 or 1, each 1 where the other is, are equal.
 one-where-one : (a b : ℕ) → a ≤ 1 → b ≤ 1 → (1 ≤ a → 1 ≤ b) → (1 ≤ b → 1 ≤ a) → a ≡ b
@@ -42,6 +43,11 @@ one-where-one a b ha hb there back = go (decLe 1 a) (decLe 1 b)
     go (yes x) d = omega (arith, there x)
     go (no x) (yes y) = absurd (omega (arith, back y))
     go (no x) (no y) = omega arith
+
+-- A step stays a step when its slab goes down.
+tight-same : (owners : List ℕ) (e : NodeEntry) (live other : ℕ) → onNode (tightEntry owners e) (λ m. live) other ≡ onNode e (λ m. live) other
+tight-same owners (Node m) live other = refl
+tight-same owners (Free previous next) live other = refl
 
 -- The ports of step k:
 module _ (s : Store) (shaped : Shaped s) (sound : Sound s) (k : ℕ) (m : NodeMeta) (l : k < s .counters .nodemark)
@@ -61,7 +67,7 @@ module _ (s : Store) (shaped : Shaped s) (sound : Sound s) (k : ℕ) (m : NodeMe
   step-ends some =
       rw (ne-eqb (m .inlets + m .outlets) 0 (omega arith), ← port-run (s .owners) (m .first) (m .inlets + m .outlets) step-live)
       (port-rises (s .owners) (m .first + (m .inlets + m .outlets)) (s .counters .portmark)
-      (omega (arith, slab-ends s (parts-of s shaped sound) k m l is, live-slot s sound k m l is)))
+      (omega (arith, slab-ends s (parts-of s shaped sound) k m l is, live-slot (slot-table s (parts-of s shaped sound)) k m l is)))
 
   -- A live port lies in the slab of the step as before,
   step-holds : (q : ℕ) → Live (s .owners) q
@@ -82,25 +88,22 @@ module _ (s : Store) (shaped : Shaped s) (sound : Sound s) (k : ℕ) (m : NodeMe
           let i : ℕ = new - first in
           let same : q ≡ m .first + i =
           port-apart (s .owners) q (m .first + i) live (step-live i (omega arith)) (omega (arith, step-first i (omega arith))) in
-          omega (arith, inSlab-yes (m .first) (m .capacity) q (omega arith) (omega (arith, live-slot s sound k m l is)))
+          omega (arith, inSlab-yes (m .first) (m .capacity) q (omega arith) (omega (arith, live-slot (slot-table s (parts-of s shaped sound)) k m l is)))
 
       back : (m .first ≤ q) × (q < m .first + m .capacity) → 1 ≤ inSlab first (m .inlets + m .outlets) new
       back (low, high) =
           let i : ℕ = q - m .first in
-          let few : i < m .inlets + m .outlets = omega (arith, port-of s shaped sound k m q l is live low high) in
+          let few : i < m .inlets + m .outlets = omega (arith, owned-few (sound .owners .live k l m is) q live low high) in
           let e : m .first + i ≡ q = omega arith in
           let at : first + i ≡ new = rw e at (step-first i few) in
           omega (arith, inSlab-yes first (m .inlets + m .outlets) new (omega arith) (omega arith))
 
   -- and no port from the new mark on does.
   step-past : (p : ℕ) → livePorts (s .owners) (s .counters .portmark) ≤ p → inSlab (tight (s .owners) m .first) (m .inlets + m .outlets) p ≡ 0
-  step-past p h = go (decLe 1 (inSlab (tight (s .owners) m .first) (m .inlets + m .outlets) p))
-    where
-      go : Dec (1 ≤ inSlab (tight (s .owners) m .first) (m .inlets + m .outlets) p) → inSlab (tight (s .owners) m .first) (m .inlets + m .outlets) p ≡ 0
-      go (yes b) =
-          let lies = inSlab-lies (tight (s .owners) m .first) (m .inlets + m .outlets) p b in
-          absurd (omega (arith, step-ends (omega arith)))
-      go (no b) = omega arith
+  step-past p h =
+      let out : 1 ≤ inSlab (tight (s .owners) m .first) (m .inlets + m .outlets) p → ⊥ =
+      λ b. let lies = inSlab-lies (tight (s .owners) m .first) (m .inlets + m .outlets) p b in omega (arith, step-ends (omega arith)) in
+      omega arith
 
 -- The table of slots once the slabs have gone down:
 module _ (s : Store) (shaped : Shaped s) (sound : Sound s) (table : List ℕ) (down : SlabsDown s table) where
@@ -138,12 +141,8 @@ module _ (s : Store) (shaped : Shaped s) (sound : Sound s) (table : List ℕ) (d
   unfolding freeOne
   down-free k = go (decLt k (s .counters .nodemark))
     where
-      same : (e : NodeEntry) → _≡_ {A = ℕ} (onNode (tightEntry (s .owners) e) (λ m. 0) 1) (onNode e (λ m. 0) 1)
-      same (Node m) = refl
-      same (Free previous next) = refl
-
       go : Dec (k < s .counters .nodemark) → freeOne table (s .counters .nodemark) k ≡ freeOne (s .slots) (s .counters .nodemark) k
-      go (yes l) = rw (down-entry k l, same (nodeEntry (s .slots) k))
+      go (yes l) = rw (down-entry k l, tight-same (s .owners) (nodeEntry (s .slots) k) 0 1)
       go (no l) = freeOne-above table (s .counters .nodemark) k (omega arith) ∙ sym (freeOne-above (s .slots) (s .counters .nodemark) k (omega arith))
 
   -- as many are live,
@@ -151,11 +150,7 @@ module _ (s : Store) (shaped : Shaped s) (sound : Sound s) (table : List ℕ) (d
   unfolding liveSlots
   down-count =
       sum-ext _ _ (s .counters .nodemark)
-      (λ k l. some-live table k ∙ rw (down-entry k l) (same (nodeEntry (s .slots) k)) ∙ sym (some-live (s .slots) k))
-    where
-      same : (e : NodeEntry) → liveOf (tightEntry (s .owners) e) ≡ liveOf e
-      same (Node m) = refl
-      same (Free previous next) = refl
+      (λ k l. some-live table k ∙ rw (down-entry k l) (tight-same (s .owners) (nodeEntry (s .slots) k) 1 0) ∙ sym (some-live (s .slots) k))
 
   -- a live port is held as before,
   down-held : (q : ℕ) → Live (s .owners) q → heldAt table (s .counters .nodemark) (livePorts (s .owners) q) ≡ heldIn s q
@@ -195,15 +190,14 @@ module _ (s : Store) (shaped : Shaped s) (sound : Sound s) (table : List ℕ) (d
 
       go : (e : NodeEntry) → nodeEntry (s .slots) k ≡ e → tightEntry (s .owners) e ≡ Node m → Owned owners k m
       go (Node n) is′ e =
-          let same : tight (s .owners) n ≡ m = cc in
           let o : Owned (s .owners) k n = sound .owners .live k l n is′ in
-          rw (← same)
+          rw (← node-is e)
           (record {
             inlets-owned = λ i b. at n is′ i (omega arith) ∙ o .inlets-owned i b;
             outlets-owned = λ i b. rw add-assoc (at n is′ (n .inlets + i) (omega arith)) ∙ rw (add-assoc (n .first) (n .inlets) i) at (o .outlets-owned i b);
             spare-unowned = λ i h b. absurd (omega arith);
           })
-      go (Free previous next) is′ e = let z : _≡_ {A = ℕ} 0 1 = cc in absurd (omega arith)
+      go (Free previous next) is′ e = absurd (free-node e)
 
 -- Where all chains are empty no port is in a free slab.
 free-none : (sizes p : ℕ) → freeAt (λ i. []) sizes p ≡ 0
@@ -271,7 +265,7 @@ ports-compacted-sound s shaped sound =
     links = portsCompacted s .links
 
     wired : LiveWiring (s .owners) (s .links)
-    wired p q here e = P .wiring p q (live-held s sound p here) e
+    wired = live-wiring (P .wiring) (P .slabs .bare)
 
     ports : PortsDown (s .owners) (s .links) owners links (s .counters .portmark)
     ports =

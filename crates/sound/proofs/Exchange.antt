@@ -2,7 +2,6 @@
 use Prim.Native.Nat.{ℕ, _*_, _≤_, _<_}
 use mathlib.Core.Path.{_≡_, refl, sym, ap, _∙_}
 use mathlib.Core.List.{List}
-use native.Mathlib.Omega.{arith}
 use native.Mathlib.Decide.{ℕ-discrete}
 use lib.ListN.{length, getD}
 use lib.Dec.{eqb}
@@ -10,11 +9,12 @@ use borrow.Author.Tests.{eq-eqb, ne-eqb}
 use Rattle.slabs.specs.Choice.{pick}
 use Rattle.slabs.specs.Sums.{sum}
 use Rattle.slabs.specs.NodeEntry.{width, slotWord, nodeEntry}
-use Rattle.slabs.proofs.SumLaws.{sum-ext, sum-change}
+use Rattle.slabs.proofs.SumLaws.{sum-ext}
 use Rattle.edits.specs.Counts.{some, liveSlots}
 use Rattle.sound.specs.Sound.{heldAt}
 use Rattle.sound.proofs.SlotLaws.{slabOf, onNode-same, some-live, SaysAs, says-as}
 use Rattle.sound.proofs.SlotTable.{SlotTable}
+use Rattle.sound.proofs.CountLaws.{sum-swap}
 
 -- a number once a and b are exchanged
 unfoldable pub exchanged : ℕ → ℕ → ℕ → ℕ
@@ -61,30 +61,8 @@ exchanged-below a b m k la lb = exchange-cases (λ j i. i < m → j < m) a b (λ
 -- A sum stays when two of its terms are exchanged.
 pub sum-exchange : (f : ℕ → ℕ) (m a b : ℕ) → a < m → b < m → (a ≡ b → ⊥) → sum (λ k. f (exchanged a b k)) m ≡ sum f m
 sum-exchange f m a b la lb d =
-    omega (
-      arith,
-      sum-change half f m a la (λ j l n. half-other j n),
-      sum-change (λ k. f (exchanged a b k)) half m b lb both,
-      half-here,
-      half-other b (omega arith),
-      ap f (exchanged-second a b),
-    )
-  where
-    half : ℕ → ℕ
-    half k = pick (eqb k a) (f b) (f k)
-
-    half-here : half a ≡ f b
-    half-here = simp (eq-eqb a a refl)
-
-    half-other : (j : ℕ) → (j ≡ a → ⊥) → half j ≡ f j
-    half-other j n = simp (ne-eqb j a n)
-
-    both : (j : ℕ) → j < m → (j ≡ b → ⊥) → f (exchanged a b j) ≡ half j
-    both j l n = go (ℕ-discrete j a)
-      where
-        go : Dec (j ≡ a) → f (exchanged a b j) ≡ half j
-        go (yes e) = rw (e, exchanged-first a b) (sym half-here)
-        go (no na) = rw (exchanged-other a b j na n) (sym (half-other j na))
+    sum-swap (λ k. f (exchanged a b k)) f m a b la lb d (ap f (exchanged-first a b)) (ap f (exchanged-second a b))
+    (λ k na nb. ap f (exchanged-other a b k na nb))
 
 -- Two slots are exchanged, as far as steps go:
 module _ (slots slots′ : List ℕ) (a b mark : ℕ) (la : a < mark) (lb : b < mark) (d : a ≡ b → ⊥)

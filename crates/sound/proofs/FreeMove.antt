@@ -10,30 +10,22 @@ use Rattle.slabs.specs.NodeEntry.{width, slotWord, nodeEntry, setEntry}
 use Rattle.slabs.specs.declared.node_entry.NodeMeta.{NodeMeta}
 use Rattle.slabs.specs.declared.node_entry.NodeEntry.the-variants.{Free, Node}
 use Rattle.slabs.proofs.EntryLaws.{setEntry-length, word-above, free-words, entry-same, entry-ext}
-use Rattle.sound.proofs.SlotLaws.{stepOf, freeOne, entry-free, live-says, live-words, SaysAs, Alike, alike-ext, alike-free, freeOne-alike, setWord, setWord-length, setWord-other, setWord-above, setWord-same}
+use Rattle.sound.proofs.SlotLaws.{stepOf, freeOne, entry-free, live-says, live-words, SaysAs, Alike, alike-ext, alike-free, freeOne-alike, setWord, setWord-length, setWord-other, setWord-above, setWord-same, FreeWords, words-kept}
 use Rattle.sound.proofs.FreeSlotLaws.{SlotChain, freeOne-yes, freeOne-live, entry-word, head-free, next-free, previous-free, next-back, back-next, head-back, back-head, not-next, not-previous, slot-chain-renamed}
 use Rattle.sound.proofs.SlotTable.{SlotTable}
 use Rattle.sound.proofs.Exchange.{exchanged, exchanged-first, exchanged-other, exchange-cases, exchanged-twice}
-
--- a word that names a slot, once the slots have new numbers
-abbrev pub wordBy : (ℕ → ℕ) → ℕ → ℕ
-wordBy f zero = 0
-wordBy f (suc k) = suc (f k)
+use Rattle.sound.proofs.MoveLaws.{carry, carry-still}
 
 -- A word that names neither of two slots stays when they are exchanged.
-pub word-still : (a b w : ℕ) → ((j : ℕ) → w ≡ suc j → (j ≡ a → ⊥) × (j ≡ b → ⊥)) → wordBy (exchanged a b) w ≡ w
-word-still a b zero apart = refl
-word-still a b (suc j) apart = ap suc (exchanged-other a b j (apart j refl .0) (apart j refl .1))
+pub word-still : (a b w : ℕ) → ((j : ℕ) → w ≡ suc j → (j ≡ a → ⊥) × (j ≡ b → ⊥)) → carry (exchanged a b) w ≡ w
+word-still a b w apart = carry-still (exchanged a b) w (λ j e. exchanged-other a b j (apart j e .0) (apart j e .1))
 
 -- The free slot from, whose step's place was to, is at to, and step m at from: its neighbours name it there.
 pub record FreeMoved (slots slots′ : List ℕ) (mark from to : ℕ) (m : NodeMeta) : Type 0 where
   pub length-kept : length slots′ ≡ length slots
   pub above : (i : ℕ) → width * mark ≤ i → getD slots′ i 0 ≡ getD slots i 0
   pub here : nodeEntry slots′ from ≡ Node m
-  pub first-word : slotWord slots′ to 0 ≡ slotWord slots from 0
-  pub second-word : slotWord slots′ to 1 ≡ 0
-  pub third-word : slotWord slots′ to 2 ≡ slotWord slots from 2
-  pub fourth-word : slotWord slots′ to 3 ≡ 0
+  pub there : FreeWords slots′ to (slotWord slots from 0) (slotWord slots from 2)
   pub before : (j : ℕ) → slotWord slots from 0 ≡ suc j → slotWord slots′ j 2 ≡ suc to
   pub after : (j : ℕ) → slotWord slots from 2 ≡ suc j → slotWord slots′ j 0 ≡ suc to
   pub others : (j l : ℕ) → l < width → (j ≡ from → ⊥) → (j ≡ to → ⊥) → (slotWord slots from 0 ≡ suc j → l ≡ 2 → ⊥)
@@ -67,17 +59,16 @@ module _ {slots slots′ : List ℕ} {heads mark nodes head from to : ℕ} {m : 
         step = ap stepOf (moved .here ∙ sym live);
         fourth = live-words slots′ from m (moved .here) .3 ∙ sym (live-words slots to m live .3);
       })
-      (record { step = rw (entry-free slots from free, entry-free slots′ to (moved .second-word)); fourth = moved .fourth-word ∙ sym fourth })
+      (record { step = rw (entry-free slots from free, entry-free slots′ to (moved .there .1)); fourth = moved .there .3 ∙ sym fourth })
       moved-alike
     where
       fourth : slotWord slots from 3 ≡ 0
       fourth = rw (entry-free slots from free) at (t .says from lf)
 
   -- and the chain has the one number for the other.
-  pub moved-chain : SlotChain slots′ (wordBy (exchanged from to) head) mark
+  pub moved-chain : SlotChain slots′ (carry (exchanged from to) head) mark
   moved-chain =
-      slot-chain-renamed c (exchanged from to) (exchanged from to) (exchanged-twice from to) (exchanged-twice from to) (wordBy (exchanged from to)) refl
-      (λ k. refl) slots′ (λ k l e. words k l e (ℕ-discrete k from))
+      slot-chain-renamed c (exchanged from to) (exchanged from to) (exchanged-twice from to) (exchanged-twice from to) slots′ (λ k l e. words k l e (ℕ-discrete k from))
       (λ k. exchange-cases (λ j i. freeOne slots′ mark i ≡ freeOne slots mark j) from to at-from at-to (λ j nf nt. freeOne-alike slots slots′ mark j (moved-alike j nf nt)) k)
     where
       at-from : freeOne slots′ mark from ≡ freeOne slots mark to
@@ -85,18 +76,18 @@ module _ {slots slots′ : List ℕ} {heads mark nodes head from to : ℕ} {m : 
           freeOne-live slots′ mark from (live-says slots′ from m (moved .here)) ∙ sym (freeOne-live slots mark to (live-says slots to m live))
 
       at-to : freeOne slots′ mark to ≡ freeOne slots mark from
-      at-to = freeOne-yes slots′ mark to lt (moved .second-word) ∙ sym (freeOne-yes slots mark from lf free)
+      at-to = freeOne-yes slots′ mark to lt (moved .there .1) ∙ sym (freeOne-yes slots mark from lf free)
 
       -- a neighbour's word that named the slot where it was names it where it is
-      follows : (w : ℕ) → w ≡ suc from → wordBy (exchanged from to) w ≡ suc to
+      follows : (w : ℕ) → w ≡ suc from → carry (exchanged from to) w ≡ suc to
       follows w e = rw (e, exchanged-first from to)
 
       words : (k : ℕ) → k < mark → slotWord slots k 1 ≡ 0 → Dec (k ≡ from)
-          → (slotWord slots′ (exchanged from to k) 0 ≡ wordBy (exchanged from to) (slotWord slots k 0))
-          × (slotWord slots′ (exchanged from to k) 2 ≡ wordBy (exchanged from to) (slotWord slots k 2))
+          → (slotWord slots′ (exchanged from to k) 0 ≡ carry (exchanged from to) (slotWord slots k 0))
+          × (slotWord slots′ (exchanged from to k) 2 ≡ carry (exchanged from to) (slotWord slots k 2))
       words k l e (yes i) = rw (i, exchanged-first from to) (
-        moved .first-word ∙ sym (word-still from to (slotWord slots from 0) previous),
-        moved .third-word ∙ sym (word-still from to (slotWord slots from 2) next),
+        moved .there .0 ∙ sym (word-still from to (slotWord slots from 0) previous),
+        moved .there .2 ∙ sym (word-still from to (slotWord slots from 2) next),
       )
         where
           previous : (j : ℕ) → slotWord slots from 0 ≡ suc j → (j ≡ from → ⊥) × (j ≡ to → ⊥)
@@ -107,7 +98,7 @@ module _ {slots slots′ : List ℕ} {heads mark nodes head from to : ℕ} {m : 
       words k l e (no n) =
           rw (exchanged-other from to k n (not-to k e)) (first (ℕ-discrete (slotWord slots from 2) (suc k)), third (ℕ-discrete (slotWord slots from 0) (suc k)))
         where
-          first : Dec (slotWord slots from 2 ≡ suc k) → slotWord slots′ k 0 ≡ wordBy (exchanged from to) (slotWord slots k 0)
+          first : Dec (slotWord slots from 2 ≡ suc k) → slotWord slots′ k 0 ≡ carry (exchanged from to) (slotWord slots k 0)
           first (yes z) = moved .after k z ∙ sym (follows (slotWord slots k 0) (next-back c from k lf free z))
           first (no z) =
               moved .others k 0 (omega arith) n (not-to k e) (λ i y. omega arith) (λ i y. z i) ∙
@@ -115,7 +106,7 @@ module _ {slots slots′ : List ℕ} {heads mark nodes head from to : ℕ} {m : 
               (word-still from to (slotWord slots k 0)
               (λ j i. (λ same. z (rw same at (back-next c k j l e i)), not-to j (previous-free c k j l e i .1))))
 
-          third : Dec (slotWord slots from 0 ≡ suc k) → slotWord slots′ k 2 ≡ wordBy (exchanged from to) (slotWord slots k 2)
+          third : Dec (slotWord slots from 0 ≡ suc k) → slotWord slots′ k 2 ≡ carry (exchanged from to) (slotWord slots k 2)
           third (yes z) = moved .before k z ∙ sym (follows (slotWord slots k 2) (back-next c from k lf free z))
           third (no z) =
               moved .others k 2 (omega arith) n (not-to k e) (λ i y. z i) (λ i y. omega arith) ∙
@@ -126,13 +117,13 @@ module _ {slots slots′ : List ℕ} {heads mark nodes head from to : ℕ} {m : 
   -- Where the free slot had no previous it was the head, and the head follows it;
   pub moved-head : slotWord slots from 0 ≡ 0 → SlotChain slots′ (to + 1) mark
   moved-head z =
-      let e : wordBy (exchanged from to) head ≡ to + 1 = rw (back-head c from lf free z, exchanged-first from to) (omega arith) in
+      let e : carry (exchanged from to) head ≡ to + 1 = rw (back-head c from lf free z, exchanged-first from to) (omega arith) in
       rw e at moved-chain
 
   -- else the head stays.
   pub moved-rest : (slotWord slots from 0 ≡ 0 → ⊥) → SlotChain slots′ head mark
   moved-rest n =
-      let e : wordBy (exchanged from to) head ≡ head =
+      let e : carry (exchanged from to) head ≡ head =
       word-still from to head (λ j i. (λ same. n (head-back c from (rw same at i)), not-to j (head-free c j i .1)))
       in
       rw e at moved-chain
@@ -197,11 +188,6 @@ module _ (slots : List ℕ) (mark to previous next : ℕ) (room : width * mark �
       setWord-same slots₂ 0 next j (to + 1) e (omega arith)
       (omega (arith, after j e, setWord-length slots₁ 2 previous (to + 1), setEntry-length slots to (Free previous next))) ∙ omega arith
 
--- the words of a free slot
-abbrev pub FreeWords : List ℕ → ℕ → ℕ → ℕ → Type 0
-FreeWords slots k previous next =
-    (slotWord slots k 0 ≡ previous) × (slotWord slots k 1 ≡ 0) × (slotWord slots k 2 ≡ next) × (slotWord slots k 3 ≡ 0)
-
 -- A free slot and a live one change places, in either order of writing:
 module _ {slots : List ℕ} {heads mark nodes head from to : ℕ} {m : NodeMeta} (t : SlotTable slots heads mark nodes) (c : SlotChain slots head mark)
     (lf : from < mark) (lt : to < mark) (free : slotWord slots from 1 ≡ 0) (live : nodeEntry slots to ≡ Node m) where
@@ -229,10 +215,7 @@ module _ {slots : List ℕ} {heads mark nodes head from to : ℕ} {m : NodeMeta}
         length-kept = setEntry-length slots₁ from (Node m) ∙ len;
         above = λ i h. word-above slots₁ from (Node m) i (omega arith) ∙ arrived-above slots mark to _ _ (t .room) lt before-to after-to i h;
         here = entry-same slots₁ from (Node m) (omega (arith, t .room, len));
-        first-word = at-to 0 (omega arith) ∙ words .0;
-        second-word = at-to 1 (omega arith) ∙ words .1;
-        third-word = at-to 2 (omega arith) ∙ words .2;
-        fourth-word = at-to 3 (omega arith) ∙ words .3;
+        there = words-kept (setEntry slots to (Free (slotWord slots from 0) (slotWord slots from 2))) (setEntry slots₁ from (Node m)) to at-to words;
         before =
             λ j e.
             entry-word slots₁ from (Node m) j 2 (omega arith) (before-from j e) ∙ arrived-before slots mark to _ _ (t .room) lt before-to after-to j e;
@@ -264,10 +247,7 @@ module _ {slots : List ℕ} {heads mark nodes head from to : ℕ} {m : NodeMeta}
         length-kept = arrived-length slots₁ mark to _ _ room lt before-to after-to ∙ len;
         above = λ i h. arrived-above slots₁ mark to _ _ room lt before-to after-to i h ∙ word-above slots from (Node m) i (omega arith);
         here = entry-ext slots₂ slots₁ from at-from ∙ entry-same slots from (Node m) (omega (arith, t .room));
-        first-word = at-to 0 (omega arith) ∙ words .0;
-        second-word = at-to 1 (omega arith) ∙ words .1;
-        third-word = at-to 2 (omega arith) ∙ words .2;
-        fourth-word = at-to 3 (omega arith) ∙ words .3;
+        there = words-kept (setEntry slots₁ to (Free (slotWord slots from 0) (slotWord slots from 2))) slots₂ to at-to words;
         before = arrived-before slots₁ mark to _ _ room lt before-to after-to;
         after = arrived-after slots₁ mark to _ _ room lt before-to after-to;
         others =

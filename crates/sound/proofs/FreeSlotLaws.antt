@@ -18,7 +18,8 @@ use Rattle.slabs.proofs.SlabLaws.{isPort-yes, isPort-no, chain-kept}
 use Rattle.edits.specs.Store.{Store}
 use Rattle.sound.specs.Sound.{Backed, freeSlots, FreeChain}
 use Rattle.sound.proofs.ChainLaws.{timesOn, first-on, on-cases, none-on, cons-on, next-backed, previous-leads, first-backed, first-alone, chain-word, chain-next, backed-previous, chain-first, next-on, previous-on, backed-kept, backed-from, chain-renamed, backed-renamed, renamed-on}
-use Rattle.sound.proofs.SlotLaws.{freeOne, entry-free, entry-live, Alike, alike-ext, freeOne-alike, setWord, setWord-length, setWord-other, setWord-same, setWord-alike}
+use Rattle.sound.proofs.SlotLaws.{freeOne, entry-free, entry-live, Alike, alike-ext, freeOne-alike, setWord, setWord-length, setWord-other, setWord-same, setWord-alike, FreeWords}
+use Rattle.sound.proofs.MoveLaws.{carry}
 
 -- rule 3 of a table of slots, the word that leads to the chain, and the mark
 pub record SlotChain (slots : List ℕ) (head mark : ℕ) : Type 0 where
@@ -207,7 +208,7 @@ module _ {slots : List ℕ} {head mark : ℕ} (c : SlotChain slots head mark) wh
       slots₂ : List ℕ
       slots₂ = setEntry slots₁ k (Free 0 head)
 
-      words : (slotWord slots₂ k 0 ≡ 0) × (slotWord slots₂ k 1 ≡ 0) × (slotWord slots₂ k 2 ≡ head) × (slotWord slots₂ k 3 ≡ 0)
+      words : FreeWords slots₂ k 0 head
       words = free-words slots₁ k 0 head (omega (arith, setWord-length slots 0 head (k + 1)))
 
       apart : (q : ℕ) → 1 ≤ timesOn (c .chain) q → q ≡ k → ⊥
@@ -236,20 +237,19 @@ module _ {slots : List ℕ} {head mark : ℕ} (c : SlotChain slots head mark) wh
           )
 
   -- When its slots get new numbers, and with them the words that name them, it follows.
-  pub slot-chain-renamed : (f back : ℕ → ℕ) → ((k : ℕ) → back (f k) ≡ k) → ((k : ℕ) → f (back k) ≡ k) → (g : ℕ → ℕ) → g 0 ≡ 0
-      → ((k : ℕ) → g (suc k) ≡ suc (f k)) → (slots′ : List ℕ)
+  pub slot-chain-renamed : (f back : ℕ → ℕ) → ((k : ℕ) → back (f k) ≡ k) → ((k : ℕ) → f (back k) ≡ k) → (slots′ : List ℕ)
       → ((k : ℕ) → k < mark → slotWord slots k 1 ≡ 0
-      → (slotWord slots′ (f k) 0 ≡ g (slotWord slots k 0)) × (slotWord slots′ (f k) 2 ≡ g (slotWord slots k 2)))
+      → (slotWord slots′ (f k) 0 ≡ carry f (slotWord slots k 0)) × (slotWord slots′ (f k) 2 ≡ carry f (slotWord slots k 2)))
       → ((k : ℕ) → freeOne slots′ mark k ≡ freeOne slots mark (back k))
-      → SlotChain slots′ (g head) mark
-  slot-chain-renamed f back there here g none names slots′ words free =
+      → SlotChain slots′ (carry f head) mark
+  slot-chain-renamed f back there here slots′ words free =
       record {
         chain = map f (c .chain);
         forward =
-            chain-renamed f g _ _ head (c .chain) none (λ k h. names k) (λ k h. words k (on-free k h .0) (on-free k h .1) .1) (c .forward);
+            chain-renamed f (carry f) _ _ head (c .chain) refl (λ k h. refl) (λ k h. words k (on-free k h .0) (on-free k h .1) .1) (c .forward);
         backward =
-            rw none at
-            (backed-renamed f g (λ k. slotWord slots k 0) (λ k. slotWord slots′ k 0) 0 (c .chain) (λ k h. names k) (λ k h. words k (on-free k h .0) (on-free k h .1) .0) (c .backward));
+            backed-renamed f (carry f) (λ k. slotWord slots k 0) (λ k. slotWord slots′ k 0) 0 (c .chain) (λ k h. refl)
+            (λ k h. words k (on-free k h .0) (on-free k h .1) .0) (c .backward);
         each-once = λ k. renamed-on f back there here (c .chain) k ∙ c .each-once (back k) ∙ sym (free k);
       }
 

@@ -10,7 +10,6 @@ use lib.ListN.{length, getD}
 use lib.Dec.{eqb, ltb}
 use borrow.Author.Tests.{eqb-false, ltb-true, ltb-false}
 use Rattle.slabs.specs.Choice.{pick}
-use Rattle.slabs.specs.PortEntry.{ownerWord}
 use Rattle.slabs.specs.NodeEntry.{setEntry}
 use Rattle.slabs.specs.Links.{Wiring, pairs}
 use Rattle.slabs.specs.Slab.{filled, ownersWritten}
@@ -19,8 +18,8 @@ use Rattle.slabs.specs.declared.node_entry.NodeMeta.{NodeMeta}
 use Rattle.slabs.specs.declared.node_entry.NodeEntry.the-variants.{Node}
 use Rattle.slabs.proofs.Shapes.{filled-length}
 use Rattle.slabs.proofs.EntryLaws.{owner-live}
-use Rattle.slabs.proofs.FillLaws.{filled-in, filled-apart, written-length, written-inlet, written-outlet, written-below, written-above}
-use Rattle.slabs.proofs.SlabLaws.{inSlab-yes, inSlab-lies, slabs-kept, slabs-held}
+use Rattle.slabs.proofs.FillLaws.{filled-in, filled-apart, written-length, written-inlet, written-outlet, written-above}
+use Rattle.slabs.proofs.SlabLaws.{inSlab-yes, slabs-kept, slabs-held}
 use Rattle.slabs.proofs.HeldLaws.{written-wiring, written-pairs}
 use Rattle.edits.specs.Store.{Store}
 use Rattle.edits.specs.Counts.{livePorts}
@@ -30,7 +29,10 @@ use Rattle.renumber.specs.declared.resize.Change.{Change}
 use Rattle.sound.specs.Sound.{Owned, LiveSlot, heldAt, heldIn}
 use Rattle.sound.proofs.Parts.{Parts}
 use Rattle.sound.proofs.MoveLaws.{LiveWiring, Carried, Quiet, Runs, ownersRun, placedRun, run-carried, run-quiet, ownersRun-other, ownersRun-new, ownersRun-old, quiet-wiring, live-wiring, dead-loose, held-wiring}
-use Rattle.sound.proofs.Changes.{Granted, keeps, Rests, rests, bared, bared-length, bared-inlet, bared-outlet, bared-rest, bared-outside, bared-bare, bared-wiring, bared-pairs, cut-length, cut-pairs, cut-still, unheld-outside, ports-some, ports-changed, owned-live, reslot, changed-parts}
+use Rattle.sound.proofs.Changes.{Granted, keeps, Rests, rests, bared, bared-length, bared-outside, bared-bare, bared-wiring, bared-pairs, cut-length, cut-pairs, cut-still, unheld-outside, reslot, changed-parts, KeptIn, kept-agree, bared-kept}
+use Rattle.sound.proofs.OwnerLaws.{ports-some, ports-change, owned-ports, written-outside}
+use Rattle.sound.proofs.Fits.{slab-inside}
+use Rattle.sound.proofs.Kept.{false-true}
 
 -- the step as it shall be, in its own slab
 abbrev pub inPlaceMeta : Change → NodeMeta
@@ -43,8 +45,18 @@ in-place-fits ch e = go (eqb (ch .inlets + ch .outlets) 0) refl e
   where
     go : (t : Bool) → eqb (ch .inlets + ch .outlets) 0 ≡ t → pick t false (ltb (ch .inlets + ch .outlets) (ch .meta .capacity)) ≡ true
         → (1 ≤ ch .inlets + ch .outlets) × (ch .inlets + ch .outlets < ch .meta .capacity)
-    go true f g = let z : _≡_ {A = Bool} false true = g in let n : _≡_ {A = ℕ} 0 1 = cc in absurd (omega arith)
+    go true f g = absurd (false-true g)
     go false f g = let n = eqb-false (ch .inlets + ch .outlets) 0 f in (omega arith, ltb-true (ch .inlets + ch .outlets) (ch .meta .capacity) g)
+
+-- the owner words with the new ports' written, where the rest of the old ports' begin, and how many those are
+abbrev newWritten : List ℕ → Change → List ℕ
+newWritten owners ch = ownersWritten owners (ch .node) (ch .meta .first) (ch .inlets) (ch .outlets)
+
+abbrev restFrom : Change → ℕ
+restFrom ch = ch .meta .first + (ch .inlets + ch .outlets)
+
+abbrev restCount : Change → ℕ
+restCount ch = ch .meta .inlets + ch .meta .outlets - (ch .inlets + ch .outlets)
 
 module _ (owners : List ℕ) (ch : Change) (total : ch .inlets + ch .outlets < ch .meta .capacity)
     (fit : ch .meta .inlets + ch .meta .outlets ≤ ch .meta .capacity) where
@@ -52,24 +64,16 @@ module _ (owners : List ℕ) (ch : Change) (total : ch .inlets + ch .outlets < c
   pub in-place-length : length (inPlaceOwners owners ch) ≡ length owners
   unfolding inPlaceOwners
   in-place-length =
-      filled-length (ownersWritten owners (ch .node) (ch .meta .first) (ch .inlets) (ch .outlets)) (ch .meta .first + (ch .inlets + ch .outlets)) (ch .meta .inlets + ch .meta .outlets - (ch .inlets + ch .outlets)) 0
+      filled-length (newWritten owners ch) (restFrom ch) (restCount ch) 0
       ∙ written-length owners (ch .node) (ch .meta .first) (ch .inlets) (ch .outlets)
 
   -- those outside the slab stay,
   pub in-place-outside : (p : ℕ) → inSlab (ch .meta .first) (ch .meta .capacity) p ≡ 0 → getD (inPlaceOwners owners ch) p 0 ≡ getD owners p 0
   unfolding inPlaceOwners
   in-place-outside p out =
-      filled-apart (ownersWritten owners (ch .node) (ch .meta .first) (ch .inlets) (ch .outlets)) (ch .meta .first + (ch .inlets + ch .outlets)) (ch .meta .inlets + ch .meta .outlets - (ch .inlets + ch .outlets)) 0 p
+      filled-apart (newWritten owners ch) (restFrom ch) (restCount ch) 0 p
       (λ i l e. omega (arith, inSlab-yes (ch .meta .first) (ch .meta .capacity) p (omega arith) (omega arith)))
-      ∙ go (decLt p (ch .meta .first))
-    where
-      go : Dec (p < ch .meta .first) → getD (ownersWritten owners (ch .node) (ch .meta .first) (ch .inlets) (ch .outlets)) p 0 ≡ getD owners p 0
-      go (yes l) = written-below owners (ch .node) (ch .meta .first) (ch .inlets) (ch .outlets) p l
-      go (no l) = written-above owners (ch .node) (ch .meta .first) (ch .inlets) (ch .outlets) p (above (decLt p (ch .meta .first + ch .meta .capacity)))
-        where
-          above : Dec (p < ch .meta .first + ch .meta .capacity) → ch .meta .first + ch .inlets + ch .outlets ≤ p
-          above (yes h) = absurd (omega (arith, inSlab-yes (ch .meta .first) (ch .meta .capacity) p (omega arith) h))
-          above (no h) = omega arith
+      ∙ written-outside owners (ch .node) (ch .meta .first) (ch .inlets) (ch .outlets) (ch .meta .capacity) p (omega arith) out
 
   -- and rule 5 is true of the step.
   pub in-place-owned : Owned owners (ch .node) (ch .meta) → ch .meta .first + ch .meta .capacity ≤ length owners
@@ -77,31 +81,25 @@ module _ (owners : List ℕ) (ch : Change) (total : ch .inlets + ch .outlets < c
   unfolding inPlaceOwners
   in-place-owned owned inside =
       record {
-        inlets-owned = λ i l. below (ch .meta .first + i) (omega arith) ∙ written-inlet owners (ch .node) (ch .meta .first) (ch .inlets) (ch .outlets) i l (omega arith);
+        inlets-owned = λ i l.
+            below (ch .meta .first + i) (omega arith) ∙ written-inlet owners (ch .node) (ch .meta .first) (ch .inlets) (ch .outlets) i l (omega arith);
         outlets-owned = λ i l.
             below (ch .meta .first + ch .inlets + i) (omega arith) ∙ written-outlet owners (ch .node) (ch .meta .first) (ch .inlets) (ch .outlets) i l (omega arith);
         spare-unowned = λ i a b. spare i a b (decLt i (ch .meta .inlets + ch .meta .outlets));
       }
     where
-      written : List ℕ
-      written = ownersWritten owners (ch .node) (ch .meta .first) (ch .inlets) (ch .outlets)
-
-      start : ℕ
-      start = ch .meta .first + (ch .inlets + ch .outlets)
-
-      rest : ℕ
-      rest = ch .meta .inlets + ch .meta .outlets - (ch .inlets + ch .outlets)
-
-      below : (p : ℕ) → p < start → getD (filled written start rest 0) p 0 ≡ getD written p 0
-      below p l = filled-apart written start rest 0 p (λ i b e. omega arith)
+      below : (p : ℕ) → p < restFrom ch → getD (filled (newWritten owners ch) (restFrom ch) (restCount ch) 0) p 0 ≡ getD (newWritten owners ch) p 0
+      below p l = filled-apart (newWritten owners ch) (restFrom ch) (restCount ch) 0 p (λ i b e. omega arith)
 
       spare : (i : ℕ) → ch .inlets + ch .outlets ≤ i → i < ch .meta .capacity → Dec (i < ch .meta .inlets + ch .meta .outlets)
-          → getD (filled written start rest 0) (ch .meta .first + i) 0 ≡ 0
+          → getD (filled (newWritten owners ch) (restFrom ch) (restCount ch) 0) (ch .meta .first + i) 0 ≡ 0
       spare i a b (yes l) =
-          let e : ch .meta .first + i ≡ start + (i - (ch .inlets + ch .outlets)) = omega arith in
-          rw e (filled-in written start rest 0 (i - (ch .inlets + ch .outlets)) (omega arith) (omega (arith, written-length owners (ch .node) (ch .meta .first) (ch .inlets) (ch .outlets))))
+          let e : ch .meta .first + i ≡ restFrom ch + (i - (ch .inlets + ch .outlets)) = omega arith in
+          rw e
+          (filled-in (newWritten owners ch) (restFrom ch) (restCount ch) 0 (i - (ch .inlets + ch .outlets)) (omega arith)
+          (omega (arith, written-length owners (ch .node) (ch .meta .first) (ch .inlets) (ch .outlets))))
       spare i a b (no l) =
-          filled-apart written start rest 0 (ch .meta .first + i) (λ j c e. omega arith)
+          filled-apart (newWritten owners ch) (restFrom ch) (restCount ch) 0 (ch .meta .first + i) (λ j c e. omega arith)
           ∙ written-above owners (ch .node) (ch .meta .first) (ch .inlets) (ch .outlets) (ch .meta .first + i) (omega arith)
           ∙ owned .spare-unowned i (omega arith) b
 
@@ -117,13 +115,17 @@ module _ (s : Store) (P : Parts s) (ch : Change) (can : Granted s ch) (room : ch
   at-rest = rests s P (ch .node) (ch .meta) (can .below) (can .is)
 
   inside : ch .meta .first + ch .meta .capacity ≤ length (s .owners)
-  inside = omega (arith, at-rest .ends, P .slabs .room, P .slabs .equal)
+  inside = slab-inside s P (ch .node) (ch .meta) (can .below) (can .is)
 
-  -- The kept outlets are a run that goes in turn.
+  -- Once the removed ports are nobody's, the slab keeps the others alone,
+  kept : KeptIn (bared (s .owners) ch) ch (ch .meta .first) (ch .meta .inlets) (ch .meta .capacity)
+  kept = bared-kept (s .owners) ch (at-rest .owned) (at-rest .slot .fit) inside
+
+  -- and the kept outlets are a run that goes in turn.
   runs : Runs (bared (s .owners) ch) (outletRun ch) (s .counters .portmark)
   runs =
       record {
-        live = λ i l. rw (bared-outlet (s .owners) ch (ch .node) (at-rest .owned) i l) (owner-live (ch .node) 1);
+        live = λ i l. rw (kept .outlet i l) (owner-live (ch .node) 1);
         target = λ i l. target i l (decLe (ch .meta .inlets) (ch .inlets + i)) (decLt (ch .inlets + i) (ch .meta .inlets + outletsKept ch));
         down = λ e. inl (omega (arith, ltb-true (ch .inlets) (ch .meta .inlets) e));
         up = λ e. omega (arith, ltb-false (ch .inlets) (ch .meta .inlets) e);
@@ -137,10 +139,10 @@ module _ (s : Store) (P : Parts s) (ch : Change) (can : Granted s ch) (room : ch
       target i l (yes a) (yes b) = inr (omega arith, omega arith)
       target i l (yes a) (no b) =
           let e : ch .meta .first + ch .inlets + i ≡ ch .meta .first + (ch .inlets + i) = omega arith in
-          inl (rw e (bared-rest (s .owners) ch (ch .node) (at-rest .owned) (ch .inlets + i) (at-rest .slot .fit) inside (omega (arith, keeps ch)) (omega (arith, keeps ch)) (λ x y. b y)))
+          inl (rw e (kept .rest (ch .inlets + i) (omega (arith, keeps ch)) (omega (arith, keeps ch)) (λ x y. b y)))
       target i l (no a) d =
           let e : ch .meta .first + ch .inlets + i ≡ ch .meta .first + (ch .inlets + i) = omega arith in
-          inl (rw e (bared-rest (s .owners) ch (ch .node) (at-rest .owned) (ch .inlets + i) (at-rest .slot .fit) inside (omega (arith, keeps ch)) (omega (arith, keeps ch)) (λ x y. a x)))
+          inl (rw e (kept .rest (ch .inlets + i) (omega (arith, keeps ch)) (omega (arith, keeps ch)) (λ x y. a x)))
 
   live-before : LiveWiring (bared (s .owners) ch) (cutRemoved (s .links) ch)
   live-before = live-wiring (bared-wiring s P ch (can .below) (can .is)) (bared-bare s P ch (can .below) (can .is))
@@ -151,19 +153,16 @@ module _ (s : Store) (P : Parts s) (ch : Change) (can : Granted s ch) (room : ch
   short : s .counters .portmark ≤ length (cutRemoved (s .links) ch)
   short = omega (arith, cut-length (s .links) ch, P .slabs .room)
 
-  carried : Carried (bared (s .owners) ch) (cutRemoved (s .links) ch) (inPlaceGhost (s .owners) ch) (inPlaceLinks (s .links) ch) (placedRun (outletRun ch) (outletsKept ch)) (s .counters .portmark)
+  carried : Carried (bared (s .owners) ch) (cutRemoved (s .links) ch) (inPlaceGhost (s .owners) ch) (inPlaceLinks (s .links) ch)
+      (placedRun (outletRun ch) (outletsKept ch)) (s .counters .portmark)
   carried = run-carried (bared (s .owners) ch) (cutRemoved (s .links) ch) (outletRun ch) (s .counters .portmark) runs live-before equal short (outletsKept ch) (omega arith)
-
-  -- a port of the slab is held
-  slab-port : (x : ℕ) → x < ch .meta .capacity → 1 ≤ heldIn s (ch .meta .first + x)
-  slab-port x l = at-rest .held x l
 
   quiet : Quiet (bared (s .owners) ch) (cutRemoved (s .links) ch) (inPlaceGhost (s .owners) ch) (inPlaceLinks (s .links) ch)
   quiet =
       run-quiet (bared (s .owners) ch) (cutRemoved (s .links) ch) (outletRun ch) (s .counters .portmark) runs live-before equal short
       (λ i l dead.
       let e : ch .meta .first + ch .inlets + i ≡ ch .meta .first + (ch .inlets + i) = omega arith in
-      dead-loose (bared-wiring s P ch (can .below) (can .is)) (ch .meta .first + ch .inlets + i) (rw e (slab-port (ch .inlets + i) (omega (arith, keeps ch)))) dead)
+      dead-loose (bared-wiring s P ch (can .below) (can .is)) (ch .meta .first + ch .inlets + i) (rw e (at-rest .held (ch .inlets + i) (omega (arith, keeps ch)))) dead)
       (outletsKept ch) (omega arith)
 
   wiring : Wiring (inPlaceGhost (s .owners) ch) (inPlaceLinks (s .links) ch) (heldIn s)
@@ -177,19 +176,7 @@ module _ (s : Store) (P : Parts s) (ch : Change) (can : Granted s ch) (room : ch
       (λ i l e. omega (arith, inSlab-yes (ch .meta .first) (ch .meta .capacity) p (omega arith) (omega (arith, keeps ch))))
       ∙ bared-outside (s .owners) ch p (at-rest .slot .fit) out
 
-  -- the kept inlets are where they were,
-  ghost-inlet : (x : ℕ) → x < inletsKept ch → getD (inPlaceGhost (s .owners) ch) (ch .meta .first + x) 0 ≡ ownerWord (ch .node) 0
-  ghost-inlet x l =
-      ownersRun-other (bared (s .owners) ch) (outletRun ch) (ch .meta .first + x) (λ i k e. omega (arith, keeps ch)) (λ i k e. omega (arith, keeps ch))
-      ∙ bared-inlet (s .owners) ch (ch .node) (at-rest .owned) x l
-
-  -- the kept outlets after the new inlets,
-  ghost-outlet : (i : ℕ) → i < outletsKept ch → getD (inPlaceGhost (s .owners) ch) (ch .meta .first + ch .inlets + i) 0 ≡ ownerWord (ch .node) 1
-  ghost-outlet i l =
-      ownersRun-new (bared (s .owners) ch) (cutRemoved (s .links) ch) (outletRun ch) (s .counters .portmark) runs live-before equal short i l
-      ∙ bared-outlet (s .owners) ch (ch .node) (at-rest .owned) i l
-
-  -- and nobody owns the rest.
+  -- nobody owns another port of it than the kept ones,
   ghost-dead : (x : ℕ) → x < ch .meta .capacity → inletsKept ch ≤ x → (ch .inlets ≤ x → x < ch .inlets + outletsKept ch → ⊥)
       → getD (inPlaceGhost (s .owners) ch) (ch .meta .first + x) 0 ≡ 0
   ghost-dead x l a b = go (decLe (ch .meta .inlets) x) (decLt x (ch .meta .inlets + outletsKept ch))
@@ -197,38 +184,41 @@ module _ (s : Store) (P : Parts s) (ch : Change) (can : Granted s ch) (room : ch
       other : (ch .meta .inlets ≤ x → x < ch .meta .inlets + outletsKept ch → ⊥) → getD (inPlaceGhost (s .owners) ch) (ch .meta .first + x) 0 ≡ 0
       other c =
           ownersRun-other (bared (s .owners) ch) (outletRun ch) (ch .meta .first + x) (λ i k e. c (omega arith) (omega arith)) (λ i k e. b (omega arith) (omega arith))
-          ∙ bared-rest (s .owners) ch (ch .node) (at-rest .owned) x (at-rest .slot .fit) inside l a c
+          ∙ kept .rest x l a c
 
       go : Dec (ch .meta .inlets ≤ x) → Dec (x < ch .meta .inlets + outletsKept ch) → getD (inPlaceGhost (s .owners) ch) (ch .meta .first + x) 0 ≡ 0
       go (yes c) (yes d) =
           let e : ch .meta .first + x ≡ ch .meta .first + ch .meta .inlets + (x - ch .meta .inlets) = omega arith in
           rw e
-          (ownersRun-old (bared (s .owners) ch) (cutRemoved (s .links) ch) (outletRun ch) (s .counters .portmark) runs live-before equal short (x - ch .meta .inlets) (omega arith)
+          (ownersRun-old (bared (s .owners) ch) (cutRemoved (s .links) ch) (outletRun ch) (s .counters .portmark) runs live-before equal short
+          (x - ch .meta .inlets) (omega arith)
           (λ j k f. b (omega arith) (omega arith)))
       go (yes c) (no d) = other (λ u v. d v)
       go (no c) d = other (λ u v. c u)
 
-  -- So the step's owner words are those of each port with a wire.
+  -- the kept inlets are where they were, and the kept outlets after the new inlets.
+  ghost-kept : KeptIn (inPlaceGhost (s .owners) ch) ch (ch .meta .first) (ch .inlets) (ch .meta .capacity)
+  ghost-kept =
+      record {
+        inlet = λ x l.
+            ownersRun-other (bared (s .owners) ch) (outletRun ch) (ch .meta .first + x) (λ i k e. omega (arith, keeps ch)) (λ i k e. omega (arith, keeps ch))
+            ∙ kept .inlet x l;
+        outlet = λ i l.
+            ownersRun-new (bared (s .owners) ch) (cutRemoved (s .links) ch) (outletRun ch) (s .counters .portmark) runs live-before equal short i l
+            ∙ kept .outlet i l;
+        rest = ghost-dead;
+      }
+
+  -- The step's owner words are as rule 5 says,
+  owned : Owned (inPlaceOwners (s .owners) ch) (ch .node) (inPlaceMeta ch)
+  owned = in-place-owned (s .owners) ch room (at-rest .slot .fit) (at-rest .owned) inside
+
+  -- and those of each port with a wire.
   agrees : (p : ℕ) → (getD (inPlaceLinks (s .links) ch) p 0 ≡ 0 → ⊥) → getD (inPlaceOwners (s .owners) ch) p 0 ≡ getD (inPlaceGhost (s .owners) ch) p 0
   agrees p wired = go (decLe 1 (inSlab (ch .meta .first) (ch .meta .capacity) p))
     where
-      owned : Owned (inPlaceOwners (s .owners) ch) (ch .node) (inPlaceMeta ch)
-      owned = in-place-owned (s .owners) ch room (at-rest .slot .fit) (at-rest .owned) inside
-
-      at : (x : ℕ) → p ≡ ch .meta .first + x → x < ch .meta .capacity → Dec (x < inletsKept ch) → Dec (ch .inlets ≤ x) → Dec (x < ch .inlets + outletsKept ch)
-          → getD (inPlaceOwners (s .owners) ch) p 0 ≡ getD (inPlaceGhost (s .owners) ch) p 0
-      at x e l (yes a) b c = rw e (owned .inlets-owned x (omega (arith, keeps ch)) ∙ sym (ghost-inlet x a))
-      at x e l (no a) (yes b) (yes c) =
-          let f : ch .meta .first + x ≡ ch .meta .first + ch .inlets + (x - ch .inlets) = omega arith in
-          rw (e, f) (owned .outlets-owned (x - ch .inlets) (omega (arith, keeps ch)) ∙ sym (ghost-outlet (x - ch .inlets) (omega arith)))
-      at x e l (no a) (yes b) (no c) = absurd (wired (rw e (dead-loose wiring (ch .meta .first + x) (slab-port x l) (ghost-dead x l (omega arith) (λ u v. c v)))))
-      at x e l (no a) (no b) c = absurd (wired (rw e (dead-loose wiring (ch .meta .first + x) (slab-port x l) (ghost-dead x l (omega arith) (λ u v. b u)))))
-
       go : Dec (1 ≤ inSlab (ch .meta .first) (ch .meta .capacity) p) → getD (inPlaceOwners (s .owners) ch) p 0 ≡ getD (inPlaceGhost (s .owners) ch) p 0
-      go (yes h) =
-          let lies = inSlab-lies (ch .meta .first) (ch .meta .capacity) p h in
-          let x : ℕ = p - ch .meta .first in
-          at x (omega arith) (omega arith) (decLt x (inletsKept ch)) (decLe (ch .inlets) x) (decLt x (ch .inlets + outletsKept ch))
+      go (yes h) = kept-agree ghost-kept owned wiring (at-rest .held) p h wired
       go (no h) = in-place-outside (s .owners) ch room (at-rest .slot .fit) p (omega arith) ∙ sym (ghost-outside p (omega arith))
 
   -- The step's slot fits.
@@ -250,7 +240,8 @@ module _ (s : Store) (P : Parts s) (ch : Change) (can : Granted s ch) (room : ch
   pub in-place-parts : Parts (resizedInPlace s ch)
   unfolding resizedInPlace changedSlots recounted
   in-place-parts =
-      changed-parts s P (ch .node) (ch .meta) (inPlaceMeta ch) (can .below) (can .is) fits (inPlaceLinks (s .links) ch) (inPlaceOwners (s .owners) ch) (s .heads) (s .counters .portmark)
+      changed-parts s P (ch .node) (ch .meta) (inPlaceMeta ch) (can .below) (can .is) fits (inPlaceLinks (s .links) ch) (inPlaceOwners (s .owners) ch)
+      (s .heads) (s .counters .portmark)
       (s .counters .ports - (ch .meta .inlets + ch .meta .outlets) + (ch .inlets + ch .outlets)) (s .counters .links - cutWires (s .links) ch) refl
       (λ p h out. absurd (omega arith)) (λ p out out′. outside p out) owned (slabs-held slabs held-same)
       (held-wiring (written-wiring (inPlaceGhost (s .owners) ch) (inPlaceOwners (s .owners) ch) (inPlaceLinks (s .links) ch) agrees wiring) held-same)
@@ -258,9 +249,6 @@ module _ (s : Store) (P : Parts s) (ch : Change) (can : Granted s ch) (room : ch
     where
       outside : (p : ℕ) → inSlab (ch .meta .first) (ch .meta .capacity) p ≡ 0 → getD (inPlaceOwners (s .owners) ch) p 0 ≡ getD (s .owners) p 0
       outside = in-place-outside (s .owners) ch room (at-rest .slot .fit)
-
-      owned : Owned (inPlaceOwners (s .owners) ch) (ch .node) (inPlaceMeta ch)
-      owned = in-place-owned (s .owners) ch room (at-rest .slot .fit) (at-rest .owned) inside
 
       slabs : Slabs (inPlaceLinks (s .links) ch) (inPlaceOwners (s .owners) ch) (s .heads) (s .counters .portmark) (heldIn s)
       slabs =
@@ -273,11 +261,22 @@ module _ (s : Store) (P : Parts s) (ch : Change) (can : Granted s ch) (room : ch
 
       ports : s .counters .ports - (ch .meta .inlets + ch .meta .outlets) + (ch .inlets + ch .outlets) ≡ livePorts (inPlaceOwners (s .owners) ch) (s .counters .portmark)
       ports =
-          let before = owned-live (s .owners) (ch .node) (ch .meta) (at-rest .slot .fit) (at-rest .owned) in
-          omega
-          (arith, P .counted .ports, ports-some (s .owners) (ch .meta .first) (ch .meta .capacity) (ch .meta .inlets + ch .meta .outlets) (s .counters .portmark) (at-rest .ends) before, ports-changed (s .owners) (inPlaceOwners (s .owners) ch) (ch .meta .first) (ch .meta .capacity) (ch .meta .inlets + ch .meta .outlets) (ch .inlets + ch .outlets) (s .counters .portmark) (at-rest .ends) before (owned-live (inPlaceOwners (s .owners) ch) (ch .node) (inPlaceMeta ch) (omega arith) owned) outside)
+          omega (
+            arith,
+            P .counted .ports,
+            ports-some (s .owners) (ch .meta .first) (ch .meta .capacity) (s .counters .portmark) (at-rest .ends),
+            ports-change (s .owners) (inPlaceOwners (s .owners) ch) (ch .meta .first) (ch .meta .capacity) (s .counters .portmark) (at-rest .ends) outside,
+            owned-ports (at-rest .owned) (at-rest .slot .fit),
+            owned-ports owned (omega arith),
+          )
 
       wires : s .counters .links - cutWires (s .links) ch ≡ pairs (inPlaceOwners (s .owners) ch) (inPlaceLinks (s .links) ch) (s .counters .portmark)
       wires =
-          omega
-          (arith, P .counted .links, cut-pairs s P ch at-rest, bared-pairs (s .owners) (s .links) ch (s .counters .portmark), carried .wires, written-pairs (inPlaceGhost (s .owners) ch) (inPlaceOwners (s .owners) ch) (inPlaceLinks (s .links) ch) agrees (s .counters .portmark))
+          omega (
+            arith,
+            P .counted .links,
+            cut-pairs s P ch at-rest,
+            bared-pairs (s .owners) (s .links) ch (s .counters .portmark),
+            carried .wires,
+            written-pairs (inPlaceGhost (s .owners) ch) (inPlaceOwners (s .owners) ch) (inPlaceLinks (s .links) ch) agrees (s .counters .portmark),
+          )

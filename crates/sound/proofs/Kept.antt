@@ -32,6 +32,10 @@ use Rattle.calls.specs.Call.{After, decided, clearCall, addCall, removeCall, re
 use Rattle.calls.specs.declared.Call.{Call}
 use Rattle.sound.specs.Sound.{Sound, freeSlots, heldAt, heldIn}
 
+-- The two tests' values differ.
+pub false-true : false ≡ true → ⊥
+false-true e = let z : _≡_ {A = ℕ} 0 1 = cc in omega arith
+
 -- What holds of both values holds of the one that is picked,
 pub pick-both : {A : Type 0} (P : A → Type 0) (t : Bool) (a b : A) → P a → P b → P (pick t a b)
 pick-both P true a b ha hb = ha
@@ -175,3 +179,13 @@ module _ (answer : Answer) (before after : Store) (rs : List Rec) where
       go : (t : Bool) → isDone answer ≡ t → P ((decided answer before after rs) .store)
       go true e = rw (done e) (doing e)
       go false e = rw (refused e) refusal
+
+-- An answer that is done passed each test that refuses,
+pub done-past : (t : Bool) (refused rest : Answer) → isDone refused ≡ false → isDone (pick t refused rest) ≡ true → (t ≡ false) × (isDone rest ≡ true)
+done-past true refused rest no-go done = absurd (false-true (sym no-go ∙ done))
+done-past false refused rest no-go done = (refl, done)
+
+-- and met each one that allows.
+pub done-by : (t : Bool) (rest refused : Answer) → isDone refused ≡ false → isDone (pick t rest refused) ≡ true → (t ≡ true) × (isDone rest ≡ true)
+done-by true rest refused no-go done = (refl, done)
+done-by false rest refused no-go done = absurd (false-true (sym no-go ∙ done))

@@ -7,20 +7,19 @@ use mathlib.Core.Path.{_≡_, refl, sym, ap, _∙_}
 use mathlib.Core.Bool.{Bool, true, false}
 use native.Mathlib.Omega.{arith}
 use native.Mathlib.Numerals.{add-one}
-use native.Mathlib.Decide.{ℕ-discrete, decLt}
+use native.Mathlib.Decide.{ℕ-discrete}
 use lib.ListN.{length, getD, set, length-set, List·getD-eq-default}
 use lib.Seq.{getD-set-same, getD-set-other}
 use lib.Dec.{eqb}
 use borrow.Author.Tests.{eq-eqb, ne-eqb}
 use Rattle.slabs.specs.Choice.{pick}
-use Rattle.slabs.specs.Sums.{sum}
 use Rattle.slabs.specs.PortEntry.{Live}
 use Rattle.slabs.specs.Links.{Mate, Wiring, wiredOutlet, pairs}
-use Rattle.slabs.proofs.SumLaws.{sum-change}
 use Rattle.slabs.proofs.WireLaws.{set-zero}
 use Rattle.edits.specs.Counts.{some, livePorts}
 use Rattle.renumber.specs.Moves.{carried, moved, turn, movedRun}
 use Rattle.renumber.specs.declared.moves.Run.{Run}
+use Rattle.sound.proofs.CountLaws.{sum-swap}
 
 -- rule 6 over the live ports
 abbrev pub LiveWiring : List ℕ → List ℕ → Type 0
@@ -34,7 +33,7 @@ placed old new p = pick (eqb p old) new p
 unfoldable pub ownerMoved : List ℕ → ℕ → ℕ → List ℕ
 ownerMoved owners old new = pick (eqb old new) owners (set (set owners old 0) new (getD owners old 0))
 
--- a link word whose port has a new number
+-- a word that names a port or a slot, or none, once that has a new number
 abbrev pub carry : (ℕ → ℕ) → ℕ → ℕ
 carry ρ zero = 0
 carry ρ (suc q) = suc (ρ q)
@@ -58,17 +57,22 @@ carry-then : (ρ σ : ℕ → ℕ) (w : ℕ) → carry σ (carry ρ w) ≡ carry
 carry-then ρ σ zero = refl
 carry-then ρ σ (suc q) = refl
 
--- Numbers that stay carry every word to itself.
-carry-same : (w : ℕ) → carry (λ p. p) w ≡ w
-carry-same zero = refl
-carry-same (suc q) = refl
+-- What a word names alone says how it is carried,
+pub carry-as : (ρ σ : ℕ → ℕ) (w : ℕ) → ((q : ℕ) → w ≡ suc q → ρ q ≡ σ q) → carry ρ w ≡ carry σ w
+carry-as ρ σ zero same = refl
+carry-as ρ σ (suc q) same = ap suc (same q refl)
+
+-- and where that stays the word stays.
+pub carry-still : (ρ : ℕ → ℕ) (w : ℕ) → ((q : ℕ) → w ≡ suc q → ρ q ≡ q) → carry ρ w ≡ w
+carry-still ρ zero same = refl
+carry-still ρ (suc q) same = ap suc (same q refl)
 
 -- Nothing moves.
 pub rekeyed-refl : (owners links : List ℕ) → Rekeyed owners links owners links (λ p. p)
 rekeyed-refl owners links =
     record {
       owner = λ p live. refl;
-      link = λ p live. sym (carry-same (getD links p 0));
+      link = λ p live. sym (carry-still (λ q. q) (getD links p 0) (λ q e. refl));
       apart = λ p q lp lq e. e;
       onto = λ p live. (p, live, refl);
     }
@@ -98,14 +102,10 @@ pub rekeyed-as : {o l o′ l′ : List ℕ} {ρ : ℕ → ℕ} (σ : ℕ → ℕ
 rekeyed-as {o = o} {l = l} {l′ = l′} {ρ = ρ} σ wiring same r =
     record {
       owner = λ p live. rw (← same p live) (r .owner p live);
-      link = λ p live. rw (← same p live) (r .link p live ∙ go p live (getD l p 0) refl);
+      link = λ p live. rw (← same p live) (r .link p live ∙ carry-as ρ σ (getD l p 0) (λ q e. same q (wiring p q live e .there)));
       apart = λ p q lp lq e. r .apart p q lp lq (same p lp ∙ e ∙ sym (same q lq));
       onto = λ p live. let (q, lq, e) = r .onto p live in (q, lq, sym (same q lq) ∙ e);
     }
-  where
-    go : (p : ℕ) → Live o p → (w : ℕ) → getD l p 0 ≡ w → carry ρ w ≡ carry σ w
-    go p live zero e = refl
-    go p live (suc q) e = ap suc (same q (wiring p q live e .there))
 
 -- The tables matter by their words alone, and the link words at live ports alone.
 pub rekeyed-same : {o l o′ l′ : List ℕ} {ρ : ℕ → ℕ} (o″ l″ : List ℕ) → ((p : ℕ) → getD o″ p 0 ≡ getD o′ p 0)
@@ -246,23 +246,30 @@ ownerMoved-length owners old new = go (eqb old new)
     go true = refl
     go false = simp length-set
 
--- A move to another place, in owner words:
-module _ (owners : List ℕ) (old new : ℕ) (apart : old ≡ new → ⊥) where
-  -- nobody owns the old place,
-  pub ownerMoved-old : getD (ownerMoved owners old new) old 0 ≡ 0
-  unfolding ownerMoved
-  ownerMoved-old = rw (ne-eqb old new apart) (getD-set-other (set owners old 0) new old (getD owners old 0) 0 apart ∙ set-zero owners old)
+-- A move in owner words: nobody owns the old place where it is another,
+pub ownerMoved-old : (owners : List ℕ) (old new : ℕ) → (old ≡ new → ⊥) → getD (ownerMoved owners old new) old 0 ≡ 0
+unfolding ownerMoved
+ownerMoved-old owners old new apart =
+    rw (ne-eqb old new apart) (getD-set-other (set owners old 0) new old (getD owners old 0) 0 apart ∙ set-zero owners old)
 
+module _ (owners : List ℕ) (old new : ℕ) where
   -- the new place has the word,
   pub ownerMoved-new : new < length owners → getD (ownerMoved owners old new) new 0 ≡ getD owners old 0
   unfolding ownerMoved
-  ownerMoved-new h = rw (ne-eqb old new apart) (getD-set-same (set owners old 0) new (getD owners old 0) 0 (rw length-set h))
+  ownerMoved-new h = go (ℕ-discrete old new)
+    where
+      go : Dec (old ≡ new) → getD (ownerMoved owners old new) new 0 ≡ getD owners old 0
+      go (yes e) = rw (eq-eqb old new e, e)
+      go (no n) = rw (ne-eqb old new n) (getD-set-same (set owners old 0) new (getD owners old 0) 0 (rw length-set h))
 
   -- and no other place changes.
   pub ownerMoved-other : (p : ℕ) → (p ≡ old → ⊥) → (p ≡ new → ⊥) → getD (ownerMoved owners old new) p 0 ≡ getD owners p 0
   unfolding ownerMoved
-  ownerMoved-other p n m =
-      rw (ne-eqb old new apart) (getD-set-other (set owners old 0) new p (getD owners old 0) 0 m ∙ getD-set-other owners old p 0 0 n)
+  ownerMoved-other p n k = go (eqb old new)
+    where
+      go : (t : Bool) → getD (pick t owners (set (set owners old 0) new (getD owners old 0))) p 0 ≡ getD owners p 0
+      go true = refl
+      go false = getD-set-other (set owners old 0) new p (getD owners old 0) 0 k ∙ getD-set-other owners old p 0 0 n
 
 -- A move to another place, in link words. A port without a wire:
 pub moved-loose : (links : List ℕ) (old new : ℕ) → (old ≡ new → ⊥) → getD links old 0 ≡ 0 → moved links old new ≡ set (set links old 0) new 0
@@ -278,30 +285,7 @@ moved-wired links old new q apart e =
 
 -- A live port is a port of the table.
 pub live-inside : (owners : List ℕ) (p : ℕ) → Live owners p → p < length owners
-live-inside owners p live = go (decLt p (length owners))
-  where
-    go : Dec (p < length owners) → p < length owners
-    go (yes k) = k
-    go (no k) = absurd (live (List·getD-eq-default owners 0 (omega arith)))
-
--- Two sums that differ in two terms, which have changed places, are equal.
-pub sum-swap : (f g : ℕ → ℕ) (n i j : ℕ) → i < n → j < n → (i ≡ j → ⊥) → f i ≡ g j → f j ≡ g i
-    → ((x : ℕ) → (x ≡ i → ⊥) → (x ≡ j → ⊥) → f x ≡ g x) → sum f n ≡ sum g n
-sum-swap f g n i j li lj apart a b same =
-    let here : mid i ≡ g i = rw (eq-eqb i i refl) in
-    let there : mid j ≡ f j = rw (ne-eqb j i (λ e. apart (sym e))) in
-    omega
-    (arith, sum-change f mid n i li (λ x l d. sym (aside x d)), sum-change mid g n j lj (λ x l d. rest x d (ℕ-discrete x i)))
-  where
-    mid : ℕ → ℕ
-    mid x = pick (eqb x i) (g i) (f x)
-
-    aside : (x : ℕ) → (x ≡ i → ⊥) → mid x ≡ f x
-    aside x d = rw (ne-eqb x i d)
-
-    rest : (x : ℕ) → (x ≡ j → ⊥) → Dec (x ≡ i) → mid x ≡ g x
-    rest x d (yes e) = rw (eq-eqb x i e, e)
-    rest x d (no k) = aside x k ∙ same x k d
+live-inside owners p live = let out : length owners ≤ p → ⊥ = λ h. live (List·getD-eq-default owners 0 h) in omega arith
 
 -- A live port moves to another place, which nobody owns:
 module _ (owners links : List ℕ) (old new : ℕ) (apart : old ≡ new → ⊥) (live : Live owners old) (dead : getD owners new 0 ≡ 0)
@@ -365,8 +349,7 @@ module _ (owners links : List ℕ) (old new : ℕ) (apart : old ≡ new → ⊥)
 
   -- A word that does not name the port that moves is carried to itself.
   carry-other : (w : ℕ) → (w ≡ suc old → ⊥) → carry (placed old new) w ≡ w
-  carry-other zero n = refl
-  carry-other (suc q) n = ap suc (placed-other old new q (λ e. n (ap suc e)))
+  carry-other w n = carry-still (placed old new) w (λ q e. placed-other old new q (λ k. n (e ∙ ap suc k)))
 
   -- One port moves, and the live ports are rekeyed;
   move-away : Rekeyed owners links (ownerMoved owners old new) (moved links old new) (placed old new)
@@ -379,8 +362,8 @@ module _ (owners links : List ℕ) (old new : ℕ) (apart : old ≡ new → ⊥)
       }
     where
       owner : (p : ℕ) → Live owners p → Dec (p ≡ old) → getD (ownerMoved owners old new) (placed old new p) 0 ≡ getD owners p 0
-      owner p lp (yes e) = rw (e, placed-here old new) (ownerMoved-new owners old new apart (omega arith))
-      owner p lp (no n) = rw (placed-other old new p n) (ownerMoved-other owners old new apart p n (λ e. lp (rw e dead)))
+      owner p lp (yes e) = rw (e, placed-here old new) (ownerMoved-new owners old new (omega arith))
+      owner p lp (no n) = rw (placed-other old new p n) (ownerMoved-other owners old new p n (λ e. lp (rw e dead)))
 
       link : (p : ℕ) → Live owners p → Dec (p ≡ old) → Dec (getD links old 0 ≡ suc p)
           → getD (moved links old new) (placed old new p) 0 ≡ carry (placed old new) (getD links p 0)
@@ -404,7 +387,7 @@ module _ (owners links : List ℕ) (old new : ℕ) (apart : old ≡ new → ⊥)
           → (q : ℕ) × Live owners q × (placed old new q ≡ p)
       onto p lp (yes e) d = absurd (lp (rw e (ownerMoved-old owners old new apart)))
       onto p lp (no n) (yes e) = (old, live, placed-here old new ∙ sym e)
-      onto p lp (no n) (no m) = (p, rw (ownerMoved-other owners old new apart p n m) at lp, placed-other old new p n)
+      onto p lp (no n) (no m) = (p, rw (ownerMoved-other owners old new p n m) at lp, placed-other old new p n)
 
   -- the others are quiet, where the new place had no link word;
   quiet-away : getD links new 0 ≡ 0 → Quiet owners links (ownerMoved owners old new) (moved links old new)
@@ -418,18 +401,18 @@ module _ (owners links : List ℕ) (old new : ℕ) (apart : old ≡ new → ⊥)
       still : (p : ℕ) → getD owners p 0 ≡ 0 → getD (ownerMoved owners old new) p 0 ≡ 0 → Dec (p ≡ old) → Dec (p ≡ new)
           → getD (moved links old new) p 0 ≡ getD links p 0
       still p d e (yes k) n = absurd (live (rw k at d))
-      still p d e (no k) (yes n) = absurd (live (sym (ownerMoved-new owners old new apart (omega arith)) ∙ rw n at e))
+      still p d e (no k) (yes n) = absurd (live (sym (ownerMoved-new owners old new (omega arith)) ∙ rw n at e))
       still p d e (no k) (no n) = moved-other p k n (λ f. wiring old p live f .there d)
 
       left : (p : ℕ) → Live owners p → getD (ownerMoved owners old new) p 0 ≡ 0 → Dec (p ≡ old) → Dec (p ≡ new) → getD (moved links old new) p 0 ≡ 0
       left p d e (yes k) n = rw k moved-old
       left p d e (no k) (yes n) = absurd (d (rw n dead))
-      left p d e (no k) (no n) = absurd (d (sym (ownerMoved-other owners old new apart p k n) ∙ e))
+      left p d e (no k) (no n) = absurd (d (sym (ownerMoved-other owners old new p k n) ∙ e))
 
       taken : (p : ℕ) → getD owners p 0 ≡ 0 → Live (ownerMoved owners old new) p → Dec (p ≡ old) → Dec (p ≡ new) → getD links p 0 ≡ 0
       taken p d e (yes k) n = absurd (live (rw k at d))
       taken p d e (no k) (yes n) = rw n bare
-      taken p d e (no k) (no n) = absurd (e (ownerMoved-other owners old new apart p k n ∙ d))
+      taken p d e (no k) (no n) = absurd (e (ownerMoved-other owners old new p k n ∙ d))
 
   -- rule 7's wires are as many,
   pairs-away : (m : ℕ) → old < m → new < m → pairs (ownerMoved owners old new) (moved links old new) m ≡ pairs owners links m
@@ -437,7 +420,7 @@ module _ (owners links : List ℕ) (old new : ℕ) (apart : old ≡ new → ⊥)
   pairs-away m lo ln =
       sum-swap (at (ownerMoved owners old new) (moved links old new)) (at owners links) m old new lo ln apart
       (rw (ownerMoved-old owners old new apart, dead))
-      (rw (ownerMoved-new owners old new apart (omega arith), moved-new))
+      (rw (ownerMoved-new owners old new (omega arith), moved-new))
       (λ p n k. rest p n k (ℕ-discrete (getD links old 0) (suc p)))
     where
       at : List ℕ → List ℕ → ℕ → ℕ
@@ -447,8 +430,8 @@ module _ (owners links : List ℕ) (old new : ℕ) (apart : old ≡ new → ⊥)
           → at (ownerMoved owners old new) (moved links old new) p ≡ at owners links p
       rest p n k (yes e) =
           let mate = wiring old p live e in
-          rw (ownerMoved-other owners old new apart p n k, moved-mate p e, mate .back, ne-eqb (suc new) 0 (omega arith), ne-eqb (suc old) 0 (omega arith))
-      rest p n k (no e) = rw (ownerMoved-other owners old new apart p n k, moved-other p n k e)
+          rw (ownerMoved-other owners old new p n k, moved-mate p e, mate .back, ne-eqb (suc new) 0 (omega arith), ne-eqb (suc old) 0 (omega arith))
+      rest p n k (no e) = rw (ownerMoved-other owners old new p n k, moved-other p n k e)
 
 -- and so are the live ports.
 ports-away : (owners : List ℕ) (old new : ℕ) → (old ≡ new → ⊥) → getD owners new 0 ≡ 0 → new < length owners
@@ -457,8 +440,8 @@ unfolding livePorts
 ports-away owners old new apart dead inside m lo ln =
     sum-swap (λ p. some (getD (ownerMoved owners old new) p 0)) (λ p. some (getD owners p 0)) m old new lo ln apart
     (rw (ownerMoved-old owners old new apart, dead))
-    (rw (ownerMoved-new owners old new apart inside))
-    (λ p n k. rw (ownerMoved-other owners old new apart p n k))
+    (rw (ownerMoved-new owners old new inside))
+    (λ p n k. rw (ownerMoved-other owners old new p n k))
 
 -- What one move asks: it is onto the port itself, or of a live port to a place that nobody owns, both below m.
 pub record Movable (owners : List ℕ) (old new m : ℕ) : Type 0 where
@@ -606,11 +589,9 @@ module _ (owners : List ℕ) (old new : ℕ → ℕ) where
       → getD (ownersBy owners old new i) p 0 ≡ getD owners p 0
   unfolding ownersBy
   ownersBy-other zero p a b = refl
-  ownersBy-other (suc i) p a b = go (ℕ-discrete (old i) (new i)) ∙ ownersBy-other i p (λ j l. a j (omega arith)) (λ j l. b j (omega arith))
-    where
-      go : Dec (old i ≡ new i) → getD (ownerMoved (ownersBy owners old new i) (old i) (new i)) p 0 ≡ getD (ownersBy owners old new i) p 0
-      go (yes e) = rw (← e, ownerMoved-self (ownersBy owners old new i) (old i))
-      go (no d) = ownerMoved-other (ownersBy owners old new i) (old i) (new i) d p (a i (omega arith)) (b i (omega arith))
+  ownersBy-other (suc i) p a b =
+      ownerMoved-other (ownersBy owners old new i) (old i) (new i) p (a i (omega arith)) (b i (omega arith))
+      ∙ ownersBy-other i p (λ j l. a j (omega arith)) (λ j l. b j (omega arith))
 
   module _ (n m : ℕ) (turns : InTurn owners old new n m) (inside : m ≤ length owners) where
     -- When a port's turn comes, its place is as it was at first.
@@ -624,20 +605,16 @@ module _ (owners : List ℕ) (old new : ℕ → ℕ) where
     ownersBy-new zero j l k = absurd (omega arith)
     ownersBy-new (suc i) j l k = go (ℕ-discrete j i) (λ b. ownersBy-new i j (omega arith) b)
       where
-        self : Dec (old i ≡ new i) → getD (ownerMoved (ownersBy owners old new i) (old i) (new i)) (new i) 0 ≡ getD (ownersBy owners old new i) (old i) 0
-        self (yes e) = rw (← e, ownerMoved-self (ownersBy owners old new i) (old i))
-        self (no d) = ownerMoved-new (ownersBy owners old new i) (old i) (new i) d (omega (arith, ownersBy-length i, turns .to-below i (omega arith)))
-
-        rest : Dec (old i ≡ new i) → j < i
-            → getD (ownerMoved (ownersBy owners old new i) (old i) (new i)) (new j) 0 ≡ getD (ownersBy owners old new i) (new j) 0
-        rest (yes e) b = rw (← e, ownerMoved-self (ownersBy owners old new i) (old i))
-        rest (no d) b =
-            ownerMoved-other (ownersBy owners old new i) (old i) (new i) d (new j) (turns .left-first i j (omega arith) b) (turns .apart-new i j (omega arith) b)
-
         go : Dec (j ≡ i) → (j < i → getD (ownersBy owners old new i) (new j) 0 ≡ getD owners (old j) 0)
             → getD (ownerMoved (ownersBy owners old new i) (old i) (new i)) (new j) 0 ≡ getD owners (old j) 0
-        go (yes e) below = rw e (self (ℕ-discrete (old i) (new i)) ∙ here-still i (omega arith))
-        go (no d) below = let b : j < i = omega arith in rest (ℕ-discrete (old i) (new i)) b ∙ below b
+        go (yes e) below =
+            rw e
+            (ownerMoved-new (ownersBy owners old new i) (old i) (new i) (omega (arith, ownersBy-length i, turns .to-below i (omega arith)))
+            ∙ here-still i (omega arith))
+        go (no d) below =
+            let b : j < i = omega arith in
+            ownerMoved-other (ownersBy owners old new i) (old i) (new i) (new j) (turns .left-first i j (omega arith) b) (turns .apart-new i j (omega arith) b)
+            ∙ below b
 
     -- and one that is left, and not taken, has none.
     pub ownersBy-old : (i j : ℕ) → i ≤ n → j < i → ((k : ℕ) → k < i → old j ≡ new k → ⊥) → getD (ownersBy owners old new i) (old j) 0 ≡ 0
@@ -650,13 +627,7 @@ module _ (owners : List ℕ) (old new : ℕ → ℕ) where
         go (yes e) below = rw e (ownerMoved-old (ownersBy owners old new i) (old i) (new i) (λ d. free i (omega arith) (ap old e ∙ d)))
         go (no d) below =
             let b : j < i = omega arith in
-            rest (ℕ-discrete (old i) (new i)) b (below b)
-          where
-            rest : Dec (old i ≡ new i) → j < i → getD (ownersBy owners old new i) (old j) 0 ≡ 0
-                → getD (ownerMoved (ownersBy owners old new i) (old i) (new i)) (old j) 0 ≡ 0
-            rest (yes e) b z = rw (← e, ownerMoved-self (ownersBy owners old new i) (old i)) z
-            rest (no n′) b z =
-                ownerMoved-other (ownersBy owners old new i) (old i) (new i) n′ (old j) (turns .apart-old i j (omega arith) b) (free i (omega arith)) ∙ z
+            ownerMoved-other (ownersBy owners old new i) (old i) (new i) (old j) (turns .apart-old i j (omega arith) b) (free i (omega arith)) ∙ below b
 
     -- So each move can be made when its turn comes.
     pub turns-movable : (i : ℕ) → i < n → Movable (ownersBy owners old new i) (old i) (new i) m

@@ -1,63 +1,26 @@
 -- Owner words of a step's slab (rule 5): how many ports they make live, which edits keep them, and what writing them does.
-use Prim.Native.Nat.{ℕ, suc, zero, _+_, _-_, _≤_, _<_}
-use mathlib.Core.Path.{_≡_, refl, sym, ap, _∙_}
+use Prim.Native.Nat.{ℕ, _+_, _-_, _≤_, _<_}
+use mathlib.Core.Path.{_≡_, sym, ap, _∙_}
 use mathlib.Core.List.{List}
 use native.Mathlib.Omega.{arith}
-use native.Mathlib.Nat.{add-zero, add-suc, add-assoc}
+use native.Mathlib.Nat.{add-assoc}
 use native.Mathlib.Decide.{decLt, decLe}
 use lib.ListN.{length, getD}
-use borrow.Author.Tests.{eq-eqb, ne-eqb}
+use borrow.Author.Tests.{eq-eqb}
 use Rattle.slabs.specs.Sums.{sum}
-use Rattle.slabs.specs.PortEntry.{ownerWord}
+use Rattle.slabs.specs.PortEntry.{ownerWord, Live}
 use Rattle.slabs.specs.Links.{wiredOutlet, pairs}
 use Rattle.slabs.specs.Slab.{ownersWritten}
 use Rattle.slabs.specs.Slabs.{inSlab}
 use Rattle.slabs.specs.declared.node_entry.NodeMeta.{NodeMeta}
-use Rattle.slabs.proofs.SumLaws.{sum-ext, sum-zero, sum-more}
+use Rattle.slabs.proofs.SumLaws.{sum-zero, sum-more}
 use Rattle.slabs.proofs.EntryLaws.{owner-live, owner-direction}
 use Rattle.slabs.proofs.FillLaws.{written-length, written-inlet, written-outlet, written-below, written-above}
-use Rattle.slabs.proofs.SlabLaws.{inSlab-yes, inSlab-below, inSlab-above, inSlab-at, inSlab-lies}
+use Rattle.slabs.proofs.SlabLaws.{inSlab-yes, inSlab-at, inSlab-each}
 use Rattle.edits.specs.Counts.{some, livePorts}
 use Rattle.sound.specs.Sound.{Owned}
 use Rattle.sound.proofs.RenameLaws.{SamePort, same-port, Renamed}
-
--- A sum is that of its first terms and that of the others.
-pub sum-split : (f : ℕ → ℕ) (a b : ℕ) → sum f (a + b) ≡ sum f a + sum (λ i. f (a + i)) b
-unfolding sum
-sum-split f a zero = rw (add-zero a) (omega arith)
-sum-split f a (suc b) = rw add-suc (omega (arith, sum-split f a b))
-
--- A sum of ones is as much as its terms are many.
-pub sum-ones : (f : ℕ → ℕ) (n : ℕ) → ((i : ℕ) → i < n → f i ≡ 1) → sum f n ≡ n
-unfolding sum
-sum-ones f zero h = refl
-sum-ones f (suc n) h = omega (arith, sum-ones f n (λ i l. h i (omega arith)), h n (omega arith))
-
--- Two sums that differ at most in a run of terms differ by those.
-pub sum-run : (f g : ℕ → ℕ) (first n m : ℕ) → first + n ≤ m → ((p : ℕ) → inSlab first n p ≡ 0 → f p ≡ g p)
-    → sum f m + sum (λ i. g (first + i)) n ≡ sum g m + sum (λ i. f (first + i)) n
-sum-run f g first n m fits same =
-    let e : m ≡ first + n + (m - (first + n)) = omega arith in
-    rw e
-    (omega (
-      arith,
-      sum-split f (first + n) (m - (first + n)),
-      sum-split g (first + n) (m - (first + n)),
-      sum-split f first n,
-      sum-split g first n,
-      sum-ext f g first (λ i l. same i (inSlab-below first n i l)),
-      sum-ext (λ i. f (first + n + i)) (λ i. g (first + n + i)) (m - (first + n)) (λ i l. same (first + n + i) (inSlab-above first n (first + n + i) (omega arith))),
-    ))
-
--- A word 0 is of no live port,
-pub some-none : (word : ℕ) → word ≡ 0 → some word ≡ 0
-unfolding some
-some-none word e = rw (eq-eqb word 0 e)
-
--- and another of one.
-pub some-one : (word : ℕ) → (word ≡ 0 → ⊥) → some word ≡ 1
-unfolding some
-some-one word n = rw (ne-eqb word 0 n)
+use Rattle.sound.proofs.CountLaws.{sum-split, sum-ones, sum-run, some-none, some-one, sum-rises}
 
 -- the live ports of a slab
 abbrev pub portsIn : List ℕ → ℕ → ℕ → ℕ
@@ -74,6 +37,13 @@ ports-change owners owners′ first size mark fits same =
 -- A slab without owners has no live ports.
 pub ports-none : (owners : List ℕ) (first size : ℕ) → ((i : ℕ) → i < size → getD owners (first + i) 0 ≡ 0) → portsIn owners first size ≡ 0
 ports-none owners first size bare = sum-zero _ size (λ i l. some-none _ (bare i l))
+
+-- The live ports of a slab below the mark are among all.
+pub ports-some : (owners : List ℕ) (first size mark : ℕ) → first + size ≤ mark → portsIn owners first size ≤ livePorts owners mark
+unfolding livePorts
+ports-some owners first size mark fits =
+    let f : ℕ → ℕ = λ p. some (getD owners p 0) in
+    omega (arith, sum-split f first size, sum-rises f (first + size) mark fits)
 
 -- Where no port from the mark on is owned, a higher mark counts the same live ports,
 pub ports-more : (owners : List ℕ) (mark mark′ : ℕ) → mark ≤ mark′ → ((p : ℕ) → mark ≤ p → getD owners p 0 ≡ 0) → livePorts owners mark′ ≡ livePorts owners mark
@@ -100,6 +70,14 @@ owned-port {owners} {k} {m} o i l = go (decLt i (m .inlets))
     go (no h) =
         let e : m .first + i ≡ m .first + m .inlets + (i - m .inlets) = omega arith in
         (1, omega arith, rw e (o .outlets-owned (i - m .inlets) (omega arith)))
+
+-- A live port of its slab is one of them.
+pub owned-few : {owners : List ℕ} {k : ℕ} {m : NodeMeta} → Owned owners k m → (p : ℕ) → Live owners p → m .first ≤ p → p < m .first + m .capacity
+    → p < m .first + (m .inlets + m .outlets)
+owned-few {owners} {k} {m} o p live low high =
+    let e : m .first + (p - m .first) ≡ p = omega arith in
+    let out : m .first + (m .inlets + m .outlets) ≤ p → ⊥ = λ h. live (rw e at (o .spare-unowned (p - m .first) (omega arith) (omega arith))) in
+    omega arith
 
 -- A step's slab has as many live ports as it has inlets and outlets.
 pub owned-ports : {owners : List ℕ} {k : ℕ} {m : NodeMeta} → Owned owners k m → m .inlets + m .outlets ≤ m .capacity
@@ -141,15 +119,15 @@ owned-written owners k m fits spare =
       spare-unowned = λ i h l. written-above owners k (m .first) (m .inlets) (m .outlets) (m .first + i) (omega arith) ∙ spare i h l;
     }
 
--- and no other port's,
-pub written-outside : (owners : List ℕ) (k first inlets outlets p : ℕ) → inSlab first (inlets + outlets) p ≡ 0
+-- and no other port's: none outside a slab that has room for them,
+pub written-outside : (owners : List ℕ) (k first inlets outlets size p : ℕ) → inlets + outlets ≤ size → inSlab first size p ≡ 0
     → getD (ownersWritten owners k first inlets outlets) p 0 ≡ getD owners p 0
-written-outside owners k first inlets outlets p out = go (decLt p first) (decLe (first + inlets + outlets) p)
+written-outside owners k first inlets outlets size p fit out = go (decLt p first) (decLe (first + size) p)
   where
-    go : Dec (p < first) → Dec (first + inlets + outlets ≤ p) → getD (ownersWritten owners k first inlets outlets) p 0 ≡ getD owners p 0
+    go : Dec (p < first) → Dec (first + size ≤ p) → getD (ownersWritten owners k first inlets outlets) p 0 ≡ getD owners p 0
     go (yes l) d = written-below owners k first inlets outlets p l
-    go (no l) (yes h) = written-above owners k first inlets outlets p h
-    go (no l) (no h) = absurd (omega (arith, inSlab-yes first (inlets + outlets) p (omega arith) (omega arith)))
+    go (no l) (yes h) = written-above owners k first inlets outlets p (omega arith)
+    go (no l) (no h) = absurd (omega (arith, inSlab-yes first size p (omega arith) (omega arith)))
 
 -- and where they were those of another number, each port is live as before and faces the same way.
 pub owned-renamed : {owners : List ℕ} {k : ℕ} {m : NodeMeta} → Owned owners k m → (k′ : ℕ) → k < 65536 → k′ < 65536
@@ -168,23 +146,18 @@ owned-renamed {owners} {k} {m} o k′ few few′ fits p = go (decLe 1 (inSlab (m
           faces = owner-direction k′ d few′ b ∙ sym (owner-direction k d few b);
         }
 
+    at : (i : ℕ) → Dec (i < m .inlets) → i < m .inlets + m .outlets → SamePort (getD owners (m .first + i) 0) (getD owners′ (m .first + i) 0)
+    at i (yes h) l =
+        rw (o .inlets-owned i h, written-inlet owners k′ (m .first) (m .inlets) (m .outlets) i h fits) (word 0 (omega arith))
+    at i (no h) l =
+        let e : m .first + i ≡ m .first + m .inlets + (i - m .inlets) = omega arith in
+        let b : i - m .inlets < m .outlets = omega arith in
+        rw (e, o .outlets-owned (i - m .inlets) b, written-outlet owners k′ (m .first) (m .inlets) (m .outlets) (i - m .inlets) b fits) (word 1 (omega arith))
+
     go : Dec (1 ≤ inSlab (m .first) (m .inlets + m .outlets) p) → SamePort (getD owners p 0) (getD owners′ p 0)
     go (yes h) =
-        let lies = inSlab-lies (m .first) (m .inlets + m .outlets) p h in
-        at (decLt p (m .first + m .inlets)) lies
-      where
-        at : Dec (p < m .first + m .inlets) → (m .first ≤ p) × (p < m .first + (m .inlets + m .outlets)) → SamePort (getD owners p 0) (getD owners′ p 0)
-        at (yes l) lies =
-            let e : p ≡ m .first + (p - m .first) = omega arith in
-            rw
-            (e, o .inlets-owned (p - m .first) (omega arith), written-inlet owners k′ (m .first) (m .inlets) (m .outlets) (p - m .first) (omega arith) fits)
-            (word 0 (omega arith))
-        at (no l) lies =
-            let e : p ≡ m .first + m .inlets + (p - m .first - m .inlets) = omega arith in
-            rw
-            (e, o .outlets-owned (p - m .first - m .inlets) (omega arith), written-outlet owners k′ (m .first) (m .inlets) (m .outlets) (p - m .first - m .inlets) (omega arith) fits)
-            (word 1 (omega arith))
-    go (no n) = rw (written-outside owners k′ (m .first) (m .inlets) (m .outlets) p (omega arith)) (same-port (getD owners p 0))
+        inSlab-each (λ q. SamePort (getD owners q 0) (getD owners′ q 0)) (m .first) (m .inlets + m .outlets) (λ i. at i (decLt i (m .inlets))) p h
+    go (no n) = rw (written-outside owners k′ (m .first) (m .inlets) (m .outlets) (m .inlets + m .outlets) p (omega arith) (omega arith)) (same-port (getD owners p 0))
 
 -- The owner words of step m name number k now: they are those of rule 5, other steps keep theirs, and each port is live as before and faces
 -- the same way.
@@ -206,16 +179,7 @@ owned-rewritten {owners} {k} {m} o k′ few few′ fit ends =
       others =
           λ j n there fits apart.
           owned-kept there (ownersWritten owners k′ (m .first) (m .inlets) (m .outlets)) fits
-          (λ p h. written-outside owners k′ (m .first) (m .inlets) (m .outlets) p (shorter p (omega (arith, apart p))));
+          (λ p h. written-outside owners k′ (m .first) (m .inlets) (m .outlets) (m .capacity) p fit (omega (arith, apart p)));
       renamed = owned-renamed o k′ few few′ (omega arith);
       length-kept = written-length owners k′ (m .first) (m .inlets) (m .outlets);
     }
-  where
-    shorter : (p : ℕ) → inSlab (m .first) (m .capacity) p ≡ 0 → inSlab (m .first) (m .inlets + m .outlets) p ≡ 0
-    shorter p out = go (decLe 1 (inSlab (m .first) (m .inlets + m .outlets) p))
-      where
-        go : Dec (1 ≤ inSlab (m .first) (m .inlets + m .outlets) p) → inSlab (m .first) (m .inlets + m .outlets) p ≡ 0
-        go (yes h) =
-            let lies = inSlab-lies (m .first) (m .inlets + m .outlets) p h in
-            absurd (omega (arith, inSlab-yes (m .first) (m .capacity) p (omega arith) (omega arith)))
-        go (no n) = omega arith

@@ -18,8 +18,8 @@ use Rattle.slabs.proofs.FillLaws.{filled-in, filled-below, filled-above}
 use Rattle.slabs.proofs.SumLaws.{sum-ext}
 use Rattle.edits.specs.Counts.{some, livePorts}
 use Rattle.renumber.specs.Compact.{packedLinks, packedOwners, emptiedAbove}
-use Rattle.sound.proofs.OwnerLaws.{sum-ones, some-none, some-one, pairs-more}
-use Rattle.sound.proofs.CountLaws.{some-le, sum-rises, sum-next, sum-past, sum-apart, sum-consecutive, sum-low, sum-onto}
+use Rattle.sound.proofs.OwnerLaws.{pairs-more}
+use Rattle.sound.proofs.CountLaws.{some-le, sum-rises, sum-next, sum-past, sum-apart, sum-consecutive, sum-low, sum-onto, sum-ones, some-none, some-one}
 use Rattle.sound.proofs.MoveLaws.{LiveWiring, Rekeyed, rekeyed-live, rekeyed-as, rekeyed-wiring, moved-self, ownerMoved, ownerMoved-self, ownerMoved-old, ownerMoved-other, placed-here, placed-other, moved-other, Movable, Carried, movedBy, ownersBy, placedBy, moves-carried, placedBy-out, ownersBy-length, ownersBy-other}
 use Rattle.sound.proofs.Shapes.{packed-owners-length, links-length}
 
@@ -121,7 +121,7 @@ module _ (owners : List ℕ) where
       go (no live) (yes here) below =
           rw here (ownerMoved-old (downOwners owners n) n (goesTo owners n) (omega (arith, goes n live, past-live owners n live)))
       go (no live) (no d) below =
-          ownerMoved-other (downOwners owners n) n (goesTo owners n) (omega (arith, goes n live, past-live owners n live)) p d
+          ownerMoved-other (downOwners owners n) n (goesTo owners n) p d
           (omega (arith, goes n live, past-live owners n live))
           ∙ below (omega (arith, past-live owners n live)) (omega arith)
 
@@ -256,11 +256,7 @@ module _ (owners links : List ℕ) (mark : ℕ) (wiring : LiveWiring owners link
 
   -- A live port is below the mark.
   live-below : (p : ℕ) → Live owners p → p < mark
-  live-below p live = go (decLt p mark)
-    where
-      go : Dec (p < mark) → p < mark
-      go (yes l) = l
-      go (no l) = absurd (live (owners-blank p (omega arith)))
+  live-below p live = let out : mark ≤ p → ⊥ = λ h. live (owners-blank p h) in omega arith
 
   -- So in the end each live port has its new number,
   down-rekeyed : Rekeyed owners links (downOwners owners mark) (packedLinks owners links mark) (livePorts owners)

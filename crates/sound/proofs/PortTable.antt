@@ -21,6 +21,7 @@ use Rattle.edits.specs.Counts.{livePorts}
 use Rattle.sound.specs.Sound.{Owned}
 use Rattle.sound.proofs.RenameLaws.{Renamed, renamed-wiring, renamed-pairs, renamed-ports}
 use Rattle.sound.proofs.OwnerLaws.{ports-change, ports-none, ports-more, pairs-more, owned-ports, owned-written, written-outside}
+use Rattle.sound.proofs.MoveLaws.{held-wiring}
 
 -- what the slab part promises, and rules 6 and 7
 pub record PortTable (links owners heads : List ℕ) (mark : ℕ) (held : ℕ → ℕ) (ports wires : ℕ) : Type 0 where
@@ -43,7 +44,7 @@ module _ {links owners heads : List ℕ} {mark : ℕ} {held : ℕ → ℕ} {port
   table-held same =
       record {
         slabs = slabs-held (t .slabs) same;
-        wiring = λ p q h. t .wiring p q (rw (same p) h);
+        wiring = held-wiring (t .wiring) same;
         ports-counted = t .ports-counted;
         wires-counted = t .wires-counted;
       }
@@ -81,8 +82,8 @@ unfolding newSlabAtHand
 new-had heads mark room total some had = rw (ne-eqb total 0 (omega arith)) at had
 
 -- The mark does not fall when a slab is taken.
-pub taken-mark : (links heads : List ℕ) (mark size : ℕ) → mark ≤ takenMark heads mark size
-taken-mark links heads mark size = take-cases (λ l h m f. mark ≤ m) links heads mark size (λ e. omega arith) (λ first e. omega arith)
+pub taken-mark : (heads : List ℕ) (mark size : ℕ) → mark ≤ takenMark heads mark size
+taken-mark heads mark size = take-cases (λ l h m f. mark ≤ m) heads heads mark size (λ e. omega arith) (λ first e. omega arith)
 
 -- Nothing is written for no ports.
 pub written-none : (owners : List ℕ) (k first inlets outlets : ℕ) → inlets + outlets ≡ 0 → ownersWritten owners k first inlets outlets ≡ owners
@@ -134,14 +135,14 @@ ports-enter {links} {owners} {heads} {mark} {held} {ports} {wires} t k inlets ou
               record {
                 slabs =
                     slabs-kept (take-gives s total some sized hand) links′ owners′ refl (written-length owners k first inlets outlets) (λ p h. refl)
-                    (λ p h. written-outside owners k first inlets outlets p (omega arith));
+                    (λ p h. written-outside owners k first inlets outlets total p (omega arith) (omega arith));
                 wiring = written-wiring owners owners′ links′ same (take-wiring s total some sized hand (t .wiring));
                 ports-counted =
                     omega (
                       arith,
                       t .ports-counted,
-                      ports-more owners mark mark′ (taken-mark links heads mark total) (bare-above t),
-                      ports-change owners owners′ first total mark′ (fresh .ends) (written-outside owners k first inlets outlets),
+                      ports-more owners mark mark′ (taken-mark heads mark total) (bare-above t),
+                      ports-change owners owners′ first total mark′ (fresh .ends) (λ p. written-outside owners k first inlets outlets total p (omega arith)),
                       ports-none owners first total (fresh .unowned),
                       owned-ports owned (omega arith),
                     );
@@ -149,10 +150,10 @@ ports-enter {links} {owners} {heads} {mark} {held} {ports} {wires} t k inlets ou
                     t .wires-counted ∙
                     sym
                     (written-pairs owners owners′ links′ same mark′ ∙ take-pairs s total some sized hand mark′ ∙
-                    pairs-more owners links mark mark′ (taken-mark links heads mark total) (bare-above t));
+                    pairs-more owners links mark mark′ (taken-mark heads mark total) (bare-above t));
               };
           owned = owned;
-          kept = λ p h. written-outside owners k first inlets outlets p (apart p h (decLe 1 (inSlab first total p)));
+          kept = λ p h. written-outside owners k first inlets outlets total p (omega arith) (apart p h);
         }
       where
         total : ℕ
@@ -186,9 +187,9 @@ ports-enter {links} {owners} {heads} {mark} {held} {ports} {wires} t k inlets ou
         owned =
             owned-written owners k (stepFrom inlets outlets first) (omega (arith, fresh .ends, fresh .inside, s .equal)) (λ i h l. absurd (omega arith))
 
-        apart : (p : ℕ) → 1 ≤ held p → Dec (1 ≤ inSlab first total p) → inSlab first total p ≡ 0
-        apart p h (yes l) = absurd (omega (arith, inSlab-each (λ q. held q ≡ 0) first total (fresh .unheld) p l))
-        apart p h (no n) = omega arith
+        apart : (p : ℕ) → 1 ≤ held p → inSlab first total p ≡ 0
+        apart p h =
+            let out : 1 ≤ inSlab first total p → ⊥ = λ l. omega (arith, inSlab-each (λ q. held q ≡ 0) first total (fresh .unheld) p l) in omega arith
 
 -- Freeing a slab clears no owner word outside it.
 pub freed-outside : (owners : List ℕ) (first size p : ℕ) → inSlab first size p ≡ 0 → getD (freedOwners owners first size) p 0 ≡ getD owners p 0

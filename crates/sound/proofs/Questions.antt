@@ -27,8 +27,8 @@ use Rattle.calls.specs.Call.{After, decided, addCall, removeCall, changeCall, r
 use Rattle.calls.specs.declared.Call.{Call}
 use Rattle.sound.specs.Sound.{Shaped, Sound}
 use Rattle.sound.proofs.Fits.{OwnerOf, live-owner, owner-names}
-use Rattle.sound.proofs.Kept.{pick-both, pick-same, node-both, node-same, each-call, decided-answer}
-use Rattle.sound.proofs.Wires.{false-true, port-live}
+use Rattle.sound.proofs.Kept.{pick-both, pick-same, node-both, node-same, each-call, decided-answer, false-true}
+use Rattle.sound.proofs.Wires.{port-live}
 
 -- the answer whose code is 11
 abbrev isEleven : Answer → Bool

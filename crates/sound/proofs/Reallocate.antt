@@ -6,9 +6,9 @@ use mathlib.Core.Path.{_≡_, refl, sym, _∙_}
 use mathlib.Core.Bool.{Bool, true, false}
 use native.Mathlib.Omega.{arith}
 use native.Mathlib.Decide.{ℕ-discrete, decLt, decLe}
-use lib.ListN.{length, getD, set, length-set}
+use lib.ListN.{length, getD, set}
 use lib.Seq.{getD-set-other}
-use lib.Dec.{eqb, ltb}
+use lib.Dec.{ltb}
 use borrow.Author.Tests.{ne-eqb, lt-ltb, le-ltb}
 use Rattle.slabs.specs.Choice.{pick}
 use Rattle.slabs.specs.PortEntry.{Live, ownerWord}
@@ -20,9 +20,9 @@ use Rattle.slabs.specs.declared.node_entry.NodeMeta.{NodeMeta}
 use Rattle.slabs.specs.declared.node_entry.NodeEntry.the-variants.{Node}
 use Rattle.slabs.proofs.Shapes.{filled-length}
 use Rattle.slabs.proofs.EntryLaws.{owner-live}
-use Rattle.slabs.proofs.FillLaws.{filled-in, filled-apart, written-length, written-inlet, written-outlet, written-below, written-above}
+use Rattle.slabs.proofs.FillLaws.{filled-in, written-length}
 use Rattle.slabs.proofs.WireLaws.{cutAt-loose}
-use Rattle.slabs.proofs.SlabLaws.{inSlab-yes, inSlab-at, inSlab-lies, inSlab-each, end-of-slab, slabs-kept, slabs-held, held-le, Fresh, take-gives, take-fresh, free-returns-core}
+use Rattle.slabs.proofs.SlabLaws.{inSlab-yes, inSlab-at, inSlab-each, end-of-slab, slabs-kept, slabs-held, held-le, Fresh, take-gives, take-fresh, free-returns-core}
 use Rattle.slabs.proofs.HeldLaws.{written-wiring, written-pairs, relinked-wiring, relinked-pairs, take-wiring, take-pairs}
 use Rattle.edits.specs.Store.{Store}
 use Rattle.edits.specs.Steps.{removedLinks, removedOwners, removedHeads}
@@ -31,9 +31,13 @@ use Rattle.renumber.specs.Moves.{movedRun}
 use Rattle.renumber.specs.Resize.{isInPlace, newSize, grownOnce, grown, inletsKept, outletsKept, cutRemoved, cutWires, inletsInto, outletsInto, movedInto, changedSlots, changedOwners, recounted, reallocatedLinks, resizedInto}
 use Rattle.renumber.specs.declared.resize.Change.{Change}
 use Rattle.sound.specs.Sound.{Owned, LiveSlot, heldAt, heldIn}
-use Rattle.sound.proofs.Parts.{Parts}
+use Rattle.sound.proofs.Parts.{Parts, port-table}
 use Rattle.sound.proofs.MoveLaws.{LiveWiring, Carried, Quiet, Runs, rekeyed-wiring, carried-then, quiet-then, ownersRun, placedRun, run-carried, run-quiet, ownersRun-other, ownersRun-new, ownersRun-old, quiet-wiring, live-wiring, dead-loose}
-use Rattle.sound.proofs.Changes.{Granted, keeps, Rests, rests, bared, bared-length, bared-inlet, bared-outlet, bared-rest, bared-outside, bared-bare, bared-wiring, bared-pairs, cut-length, cut-pairs, cut-still, unheld-outside, LiveFirst, ports-some, ports-changed, ports-raise, pairs-raise, owned-live, owned-kept, reslot, changed-parts}
+use Rattle.sound.proofs.Changes.{Granted, keeps, Rests, rests, bared, bared-length, bared-outside, bared-bare, bared-wiring, bared-pairs, cut-length, cut-pairs, cut-still, unheld-outside, reslot, changed-parts, KeptIn, kept-agree, bared-kept}
+use Rattle.sound.proofs.OwnerLaws.{owned-kept, owned-written, written-outside, ports-some, ports-change, ports-none, ports-more, pairs-more, owned-ports}
+use Rattle.sound.proofs.PortTable.{taken-mark, inSlab-none, bare-above, freed-outside}
+use Rattle.sound.proofs.Shapes.{taken-heads-length, removed-heads-length}
+use Rattle.sound.proofs.Fits.{slab-inside}
 
 -- 2 to the k
 abbrev twice : ℕ → ℕ
@@ -87,22 +91,12 @@ free-cuts-none links first (suc n) loose =
     (cut-none links first n (λ i l. loose i (omega arith)), loose n (omega arith))
     (omega (arith, free-cuts-none links first n (λ i l. loose i (omega arith))))
 
--- The mark does not go down when a slab is taken.
-pub taken-mark : (heads : List ℕ) (mark size : ℕ) → mark ≤ takenMark heads mark size
-unfolding takenMark
-taken-mark heads mark size = go (eqb (headOf heads size) 0)
-  where
-    go : (t : Bool) → mark ≤ pick t (mark + size) mark
-    go true = omega arith
-    go false = omega arith
-
 -- A slab without wires, where there is one, is freed: the slab part is as without it, and no word outside it changes.
 pub record Freed (links owners heads : List ℕ) (mark : ℕ) (held : ℕ → ℕ) (m : NodeMeta) : Type 0 where
   pub slabs : Slabs (removedLinks links heads m) (removedOwners owners m) (removedHeads heads m) mark held
   pub links-same : (p : ℕ) → inSlab (m .first) (m .capacity) p ≡ 0 → getD (removedLinks links heads m) p 0 ≡ getD links p 0
   pub owners-same : (p : ℕ) → inSlab (m .first) (m .capacity) p ≡ 0 → getD (removedOwners owners m) p 0 ≡ getD owners p 0
   pub owners-gone : (i : ℕ) → i < m .capacity → getD (removedOwners owners m) (m .first + i) 0 ≡ 0
-  pub heads-length : length (removedHeads heads m) ≡ length heads
 
 -- A held slab whose ports have no wire can be freed so.
 pub slab-freed : (links owners heads : List ℕ) (mark : ℕ) (held : ℕ → ℕ) (m : NodeMeta) → m .capacity ≤ length heads
@@ -114,33 +108,28 @@ slab-freed links owners heads mark held m sized loose slabs = go (ℕ-discrete (
     go : Dec (m .capacity ≡ 0) → Freed links owners heads mark held m
     go (yes e) =
         record {
-          slabs = rw e (slabs-held slabs (λ p. omega (arith, none p)));
+          slabs = rw e (slabs-held slabs (λ p. omega (arith, inSlab-none (m .first) (m .capacity) p e)));
           links-same = λ p out. rw e;
           owners-same = λ p out. rw e;
           owners-gone = λ i l. absurd (omega arith);
-          heads-length = rw e;
         }
-      where
-        none : (p : ℕ) → inSlab (m .first) (m .capacity) p ≡ 0
-        none p = elim (decLe 1 (inSlab (m .first) (m .capacity) p)) [ yes h ↦ absurd (omega (arith, inSlab-lies (m .first) (m .capacity) p h)) | no h ↦ omega arith ]
     go (no n) =
         let some : 1 ≤ m .capacity = omega arith in
         let ends = end-of-slab held (m .first) (m .capacity) slabs some in
         let bare : (i : ℕ) → i < m .capacity → getD (filled owners (m .first) (m .capacity) 0) (m .first + i) 0 ≡ 0 =
         λ i l. filled-in owners (m .first) (m .capacity) 0 i l (omega (arith, ends, slabs .room, slabs .equal))
         in
-        let same : (p : ℕ) → inSlab (m .first) (m .capacity) p ≡ 0 → getD (filled owners (m .first) (m .capacity) 0) p 0 ≡ getD owners p 0 =
-        λ p out. filled-apart owners (m .first) (m .capacity) 0 p (λ i l e. omega (arith, inSlab-yes (m .first) (m .capacity) p (omega arith) (omega arith)))
-        in
         record {
           slabs =
               rw (links-is, owners-is, heads-is)
-              (free-returns-core held (m .first) (m .capacity) slabs some sized links (filled owners (m .first) (m .capacity) 0) refl (filled-length owners (m .first) (m .capacity) 0) loose (λ p h. refl) bare same);
+              (free-returns-core held (m .first) (m .capacity) slabs some sized links (filled owners (m .first) (m .capacity) 0) refl
+              (filled-length owners (m .first) (m .capacity) 0) loose (λ p h. refl) bare (freed-outside owners (m .first) (m .capacity)));
           links-same = λ p out.
-              rw links-is (getD-set-other links (m .first) p (headOf heads (m .capacity)) 0 (λ e. omega (arith, inSlab-yes (m .first) (m .capacity) p (omega arith) (omega arith))));
-          owners-same = λ p out. rw owners-is (same p out);
+              rw links-is
+              (getD-set-other links (m .first) p (headOf heads (m .capacity)) 0
+              (λ e. omega (arith, inSlab-yes (m .first) (m .capacity) p (omega arith) (omega arith))));
+          owners-same = λ p out. rw owners-is (freed-outside owners (m .first) (m .capacity) p out);
           owners-gone = λ i l. rw owners-is (bare i l);
-          heads-length = rw heads-is (length-set heads (m .capacity - 1) (m .first + 1));
         }
       where
         links-is : removedLinks links heads m ≡ set links (m .first) (headOf heads (m .capacity))
@@ -158,10 +147,7 @@ pub record Into (owners links : List ℕ) (ch : Change) (first size mark : ℕ) 
   pub fit : ch .meta .inlets + ch .meta .outlets ≤ ch .meta .capacity
   pub covers : ch .inlets + ch .outlets ≤ size
   pub apart : (ch .meta .first + ch .meta .capacity ≤ first) ⊎ (first + size ≤ ch .meta .first)
-  pub inlet : (i : ℕ) → i < inletsKept ch → getD owners (ch .meta .first + i) 0 ≡ ownerWord (ch .node) 0
-  pub outlet : (i : ℕ) → i < outletsKept ch → getD owners (ch .meta .first + ch .meta .inlets + i) 0 ≡ ownerWord (ch .node) 1
-  pub rest : (i : ℕ) → i < ch .meta .capacity → inletsKept ch ≤ i → (ch .meta .inlets ≤ i → i < ch .meta .inlets + outletsKept ch → ⊥)
-      → getD owners (ch .meta .first + i) 0 ≡ 0
+  pub kept : KeptIn owners ch (ch .meta .first) (ch .meta .inlets) (ch .meta .capacity)
   pub fresh-dead : (i : ℕ) → i < size → getD owners (first + i) 0 ≡ 0
   pub fresh-loose : (i : ℕ) → i < size → getD links (first + i) 0 ≡ 0
   pub old-held : (i : ℕ) → i < ch .meta .capacity → 1 ≤ held (ch .meta .first + i)
@@ -173,6 +159,10 @@ pub record Into (owners links : List ℕ) (ch : Change) (first size mark : ℕ) 
   pub equal : length owners ≡ length links
   pub room : mark ≤ length links
 
+-- the link words once the inlets have moved
+abbrev inletsMoved : List ℕ → Change → ℕ → List ℕ
+inletsMoved links ch first = movedRun links (inletsInto ch first) (inletsKept ch)
+
 -- the owner words as they go with the inlets
 abbrev inletsGhost : List ℕ → Change → ℕ → List ℕ
 inletsGhost owners ch first = ownersRun owners (inletsInto ch first) (inletsKept ch)
@@ -181,10 +171,10 @@ inletsGhost owners ch first = ownersRun owners (inletsInto ch first) (inletsKept
 abbrev pub intoGhost : List ℕ → Change → ℕ → List ℕ
 intoGhost owners ch first = ownersRun (inletsGhost owners ch first) (outletsInto ch first) (outletsKept ch)
 
-module _ (owners links : List ℕ) (ch : Change) (first size mark : ℕ) (held : ℕ → ℕ) (into : Into owners links ch first size mark held) where
+module _ {owners links : List ℕ} {ch : Change} {first size mark : ℕ} {held : ℕ → ℕ} (into : Into owners links ch first size mark held) where
   -- No port of one slab is one of the other.
-  slabs-apart : (x y : ℕ) → x < ch .meta .capacity → y < size → ch .meta .first + x ≡ first + y → ⊥
-  slabs-apart x y l k e = go (into .apart)
+  ports-apart : (x y : ℕ) → x < ch .meta .capacity → y < size → ch .meta .first + x ≡ first + y → ⊥
+  ports-apart x y l k e = go (into .apart)
     where
       go : (ch .meta .first + ch .meta .capacity ≤ first) ⊎ (first + size ≤ ch .meta .first) → ⊥
       go (inl a) = omega arith
@@ -196,7 +186,7 @@ module _ (owners links : List ℕ) (ch : Change) (first size mark : ℕ) (held :
   inlets-run : Runs owners (inletsInto ch first) mark
   inlets-run =
       record {
-        live = λ i l. rw (into .inlet i l) (owner-live (ch .node) 0);
+        live = λ i l. rw (into .kept .inlet i l) (owner-live (ch .node) 0);
         target = λ i l. inl (into .fresh-dead i (omega (arith, keeps ch, into .covers)));
         down = λ e. go (into .apart);
         up = λ e. let z : _≡_ {A = ℕ} 0 1 = cc in absurd (omega arith);
@@ -209,35 +199,38 @@ module _ (owners links : List ℕ) (ch : Change) (first size mark : ℕ) (held :
       go (inl a) = inr (omega (arith, keeps ch, into .fit))
       go (inr a) = inl (omega arith)
 
-  inlets-carried : Carried owners links (inletsGhost owners ch first) (movedRun links (inletsInto ch first) (inletsKept ch)) (placedRun (inletsInto ch first) (inletsKept ch)) mark
+  inlets-carried : Carried owners links (inletsGhost owners ch first) (inletsMoved links ch first) (placedRun (inletsInto ch first) (inletsKept ch)) mark
   inlets-carried = run-carried owners links (inletsInto ch first) mark inlets-run live-before (into .equal) (into .room) (inletsKept ch) (omega arith)
 
-  inlets-quiet : Quiet owners links (inletsGhost owners ch first) (movedRun links (inletsInto ch first) (inletsKept ch))
+  inlets-quiet : Quiet owners links (inletsGhost owners ch first) (inletsMoved links ch first)
   inlets-quiet =
       run-quiet owners links (inletsInto ch first) mark inlets-run live-before (into .equal) (into .room)
       (λ i l dead. into .fresh-loose i (omega (arith, keeps ch, into .covers))) (inletsKept ch) (omega arith)
 
   -- the inlets have gone: a port of the old slab that is no kept inlet is as it was,
-  first-old : (x : ℕ) → x < ch .meta .capacity → inletsKept ch ≤ x → getD (inletsGhost owners ch first) (ch .meta .first + x) 0 ≡ getD owners (ch .meta .first + x) 0
+  first-old : (x : ℕ) → x < ch .meta .capacity → inletsKept ch ≤ x
+      → getD (inletsGhost owners ch first) (ch .meta .first + x) 0 ≡ getD owners (ch .meta .first + x) 0
   first-old x l k =
       ownersRun-other owners (inletsInto ch first) (ch .meta .first + x) (λ i b e. omega arith)
-      (λ i b e. slabs-apart x i l (omega (arith, keeps ch, into .covers)) e)
+      (λ i b e. ports-apart x i l (omega (arith, keeps ch, into .covers)) e)
 
   -- and so is one of the new slab that is no place of theirs.
   first-new : (x : ℕ) → x < size → inletsKept ch ≤ x → getD (inletsGhost owners ch first) (first + x) 0 ≡ getD owners (first + x) 0
   first-new x l k =
       ownersRun-other owners (inletsInto ch first) (first + x)
-      (λ i b e. slabs-apart i x (omega (arith, keeps ch, into .fit)) l (sym e)) (λ i b e. omega arith)
+      (λ i b e. ports-apart i x (omega (arith, keeps ch, into .fit)) l (sym e)) (λ i b e. omega arith)
 
   first-outlet : (i : ℕ) → i < outletsKept ch → getD (inletsGhost owners ch first) (ch .meta .first + ch .meta .inlets + i) 0 ≡ ownerWord (ch .node) 1
   first-outlet i l =
       let e : ch .meta .first + ch .meta .inlets + i ≡ ch .meta .first + (ch .meta .inlets + i) = omega arith in
-      rw e (first-old (ch .meta .inlets + i) (omega (arith, keeps ch, into .fit)) (omega (arith, keeps ch))) ∙ into .outlet i l
+      rw e (first-old (ch .meta .inlets + i) (omega (arith, keeps ch, into .fit)) (omega (arith, keeps ch))) ∙ into .kept .outlet i l
 
   first-dead : (i : ℕ) → i < outletsKept ch → getD (inletsGhost owners ch first) (first + ch .inlets + i) 0 ≡ 0
   first-dead i l =
       let e : first + ch .inlets + i ≡ first + (ch .inlets + i) = omega arith in
-      rw e (first-new (ch .inlets + i) (omega (arith, keeps ch, into .covers)) (omega (arith, keeps ch)) ∙ into .fresh-dead (ch .inlets + i) (omega (arith, keeps ch, into .covers)))
+      rw e
+      (first-new (ch .inlets + i) (omega (arith, keeps ch, into .covers)) (omega (arith, keeps ch))
+      ∙ into .fresh-dead (ch .inlets + i) (omega (arith, keeps ch, into .covers)))
 
   outlets-run : Runs (inletsGhost owners ch first) (outletsInto ch first) mark
   outlets-run =
@@ -255,28 +248,30 @@ module _ (owners links : List ℕ) (ch : Change) (first size mark : ℕ) (held :
       go (inl a) = inr (omega (arith, keeps ch, into .fit))
       go (inr a) = inl (omega (arith, into .covers))
 
-  between : LiveWiring (inletsGhost owners ch first) (movedRun links (inletsInto ch first) (inletsKept ch))
+  between : LiveWiring (inletsGhost owners ch first) (inletsMoved links ch first)
   between = rekeyed-wiring (inlets-carried .rekeyed) live-before
 
-  equal-between : length (inletsGhost owners ch first) ≡ length (movedRun links (inletsInto ch first) (inletsKept ch))
+  equal-between : length (inletsGhost owners ch first) ≡ length (inletsMoved links ch first)
   equal-between = inlets-carried .owners-length ∙ into .equal ∙ sym (inlets-carried .links-length)
 
-  room-between : mark ≤ length (movedRun links (inletsInto ch first) (inletsKept ch))
+  room-between : mark ≤ length (inletsMoved links ch first)
   room-between = omega (arith, inlets-carried .links-length, into .room)
 
   -- The kept ports move: the live ports are rekeyed, and the ports and the wires are as many;
-  pub into-carried : Carried owners links (intoGhost owners ch first) (movedInto links ch first) (λ p. placedRun (outletsInto ch first) (outletsKept ch) (placedRun (inletsInto ch first) (inletsKept ch) p)) mark
+  pub into-carried : Carried owners links (intoGhost owners ch first) (movedInto links ch first)
+      (λ p. placedRun (outletsInto ch first) (outletsKept ch) (placedRun (inletsInto ch first) (inletsKept ch) p)) mark
   unfolding movedInto
   into-carried =
       carried-then inlets-carried
-      (run-carried (inletsGhost owners ch first) (movedRun links (inletsInto ch first) (inletsKept ch)) (outletsInto ch first) mark outlets-run between equal-between room-between (outletsKept ch) (omega arith))
+      (run-carried (inletsGhost owners ch first) (inletsMoved links ch first) (outletsInto ch first) mark outlets-run between equal-between room-between
+      (outletsKept ch) (omega arith))
 
   -- the other ports are quiet,
   pub into-quiet : Quiet owners links (intoGhost owners ch first) (movedInto links ch first)
   unfolding movedInto
   into-quiet =
       quiet-then inlets-quiet
-      (run-quiet (inletsGhost owners ch first) (movedRun links (inletsInto ch first) (inletsKept ch)) (outletsInto ch first) mark outlets-run between equal-between room-between
+      (run-quiet (inletsGhost owners ch first) (inletsMoved links ch first) (outletsInto ch first) mark outlets-run between equal-between room-between
       (λ i l dead.
       let e : first + ch .inlets + i ≡ first + (ch .inlets + i) = omega arith in
       let b : ch .inlets + i < size = omega (arith, keeps ch, into .covers) in
@@ -295,46 +290,44 @@ module _ (owners links : List ℕ) (ch : Change) (first size mark : ℕ) (held :
           → getD (intoGhost owners ch first) (ch .meta .first + x) 0 ≡ getD (inletsGhost owners ch first) (ch .meta .first + x) 0
       other out =
           ownersRun-other (inletsGhost owners ch first) (outletsInto ch first) (ch .meta .first + x) (λ i b e. out (omega arith) (omega arith))
-          (λ i b e. slabs-apart x (ch .inlets + i) l (omega (arith, keeps ch, into .covers)) (omega arith))
+          (λ i b e. ports-apart x (ch .inlets + i) l (omega (arith, keeps ch, into .covers)) (omega arith))
 
       go : Dec (x < inletsKept ch) → Dec (ch .meta .inlets ≤ x) → Dec (x < ch .meta .inlets + outletsKept ch)
           → getD (intoGhost owners ch first) (ch .meta .first + x) 0 ≡ 0
       go (yes a) b c =
           other (λ u v. omega (arith, keeps ch))
           ∙ ownersRun-old owners links (inletsInto ch first) mark inlets-run live-before (into .equal) (into .room) x a
-          (λ j k e. slabs-apart x j l (omega (arith, keeps ch, into .covers)) e)
+          (λ j k e. ports-apart x j l (omega (arith, keeps ch, into .covers)) e)
       go (no a) (yes b) (yes c) =
           let e : ch .meta .first + x ≡ ch .meta .first + ch .meta .inlets + (x - ch .meta .inlets) = omega arith in
           rw e
-          (ownersRun-old (inletsGhost owners ch first) (movedRun links (inletsInto ch first) (inletsKept ch)) (outletsInto ch first) mark outlets-run between equal-between room-between (x - ch .meta .inlets) (omega arith)
-          (λ j k f. slabs-apart x (ch .inlets + j) l (omega (arith, keeps ch, into .covers)) (omega arith)))
-      go (no a) (yes b) (no c) = other (λ u v. c v) ∙ first-old x l (omega arith) ∙ into .rest x l (omega arith) (λ u v. c v)
-      go (no a) (no b) c = other (λ u v. b u) ∙ first-old x l (omega arith) ∙ into .rest x l (omega arith) (λ u v. b u)
+          (ownersRun-old (inletsGhost owners ch first) (inletsMoved links ch first) (outletsInto ch first) mark outlets-run between equal-between room-between
+          (x - ch .meta .inlets) (omega arith)
+          (λ j k f. ports-apart x (ch .inlets + j) l (omega (arith, keeps ch, into .covers)) (omega arith)))
+      go (no a) (yes b) (no c) = other (λ u v. c v) ∙ first-old x l (omega arith) ∙ into .kept .rest x l (omega arith) (λ u v. c v)
+      go (no a) (no b) c = other (λ u v. b u) ∙ first-old x l (omega arith) ∙ into .kept .rest x l (omega arith) (λ u v. b u)
 
-  -- the kept inlets are the first of the new slab,
-  pub into-inlet : (x : ℕ) → x < inletsKept ch → getD (intoGhost owners ch first) (first + x) 0 ≡ ownerWord (ch .node) 0
-  into-inlet x l =
-      ownersRun-other (inletsGhost owners ch first) (outletsInto ch first) (first + x)
-      (λ i b e. slabs-apart (ch .meta .inlets + i) x (omega (arith, keeps ch, into .fit)) (omega (arith, keeps ch, into .covers)) (omega arith))
-      (λ i b e. omega (arith, keeps ch))
-      ∙ ownersRun-new owners links (inletsInto ch first) mark inlets-run live-before (into .equal) (into .room) x l
-      ∙ into .inlet x l
-
-  -- the kept outlets come after its inlets,
-  pub into-outlet : (i : ℕ) → i < outletsKept ch → getD (intoGhost owners ch first) (first + ch .inlets + i) 0 ≡ ownerWord (ch .node) 1
-  into-outlet i l =
-      ownersRun-new (inletsGhost owners ch first) (movedRun links (inletsInto ch first) (inletsKept ch)) (outletsInto ch first) mark outlets-run between equal-between room-between i l
-      ∙ first-outlet i l
-
-  -- nobody owns the rest of it,
-  pub into-dead : (x : ℕ) → x < size → inletsKept ch ≤ x → (ch .inlets ≤ x → x < ch .inlets + outletsKept ch → ⊥)
-      → getD (intoGhost owners ch first) (first + x) 0 ≡ 0
-  into-dead x l a b =
-      ownersRun-other (inletsGhost owners ch first) (outletsInto ch first) (first + x)
-      (λ i c e. slabs-apart (ch .meta .inlets + i) x (omega (arith, keeps ch, into .fit)) l (omega arith))
-      (λ i c e. b (omega arith) (omega arith))
-      ∙ first-new x l a
-      ∙ into .fresh-dead x l
+  -- the kept ports, and no other, are live in the new one,
+  pub into-kept : KeptIn (intoGhost owners ch first) ch first (ch .inlets) size
+  into-kept =
+      record {
+        inlet = λ i l.
+            ownersRun-other (inletsGhost owners ch first) (outletsInto ch first) (first + i)
+            (λ j b e. ports-apart (ch .meta .inlets + j) i (omega (arith, keeps ch, into .fit)) (omega (arith, keeps ch, into .covers)) (omega arith))
+            (λ j b e. omega (arith, keeps ch))
+            ∙ ownersRun-new owners links (inletsInto ch first) mark inlets-run live-before (into .equal) (into .room) i l
+            ∙ into .kept .inlet i l;
+        outlet = λ i l.
+            ownersRun-new (inletsGhost owners ch first) (inletsMoved links ch first) (outletsInto ch first) mark outlets-run between
+            equal-between room-between i l
+            ∙ first-outlet i l;
+        rest = λ i l a b.
+            ownersRun-other (inletsGhost owners ch first) (outletsInto ch first) (first + i)
+            (λ j c e. ports-apart (ch .meta .inlets + j) i (omega (arith, keeps ch, into .fit)) l (omega arith))
+            (λ j c e. b (omega arith) (omega arith))
+            ∙ first-new i l a
+            ∙ into .fresh-dead i l;
+      }
 
   -- and each port outside both slabs has the owner that it had.
   pub into-outside : (p : ℕ) → inSlab (ch .meta .first) (ch .meta .capacity) p ≡ 0 → inSlab first size p ≡ 0
@@ -346,15 +339,6 @@ module _ (owners links : List ℕ) (ch : Change) (first size mark : ℕ) (held :
       ∙ ownersRun-other owners (inletsInto ch first) p
       (λ i l e. omega (arith, inSlab-yes (ch .meta .first) (ch .meta .capacity) p (omega arith) (omega (arith, keeps ch, into .fit))))
       (λ i l e. omega (arith, inSlab-yes first size p (omega arith) (omega (arith, keeps ch, into .covers))))
-
--- the size of its chains' table stays when a slab is taken
-pub taken-heads-length : (links heads : List ℕ) (size : ℕ) → length (takenHeads links heads size) ≡ length heads
-unfolding takenHeads
-taken-heads-length links heads size = go (eqb (headOf heads size) 0)
-  where
-    go : (t : Bool) → length (pick t heads (set heads (size - 1) (getD links (headOf heads size - 1) 0))) ≡ length heads
-    go true = refl
-    go false = length-set heads (size - 1) (getD links (headOf heads size - 1) 0)
 
 -- where the new slab starts, the tables once it is taken, and who holds what then
 abbrev newPlace : Store → Change → ℕ
@@ -375,6 +359,10 @@ tookHeld s ch = with (heldIn s) (newPlace s ch) (newSize ch)
 -- the step as it shall be, in its new slab
 abbrev pub newMeta : Store → Change → NodeMeta
 newMeta s ch = record { first = newPlace s ch; inlets = ch .inlets; outlets = ch .outlets; capacity = newSize ch }
+
+-- who holds what once its slot says so
+abbrev newHeld : Store → Change → ℕ → ℕ
+newHeld s ch = heldAt (setEntry (s .slots) (ch .node) (Node (newMeta s ch))) (s .counters .nodemark)
 
 -- the tables after the moves, before the old slab is freed
 abbrev settledLinks : Store → Change → List ℕ
@@ -412,9 +400,12 @@ module _ (s : Store) (P : Parts s) (ch : Change) (can : Granted s ch) (away : is
 
   -- The two slabs have no port in common, so one ends before the other starts.
   apart : (ch .meta .first + ch .meta .capacity ≤ newPlace s ch) ⊎ (newPlace s ch + newSize ch ≤ ch .meta .first)
-  apart = go (decLe (ch .meta .first) (newPlace s ch)) (decLe (ch .meta .first + ch .meta .capacity) (newPlace s ch)) (decLe (newPlace s ch + newSize ch) (ch .meta .first))
+  apart =
+      go (decLe (ch .meta .first) (newPlace s ch)) (decLe (ch .meta .first + ch .meta .capacity) (newPlace s ch))
+      (decLe (newPlace s ch + newSize ch) (ch .meta .first))
     where
-      go : Dec (ch .meta .first ≤ newPlace s ch) → Dec (ch .meta .first + ch .meta .capacity ≤ newPlace s ch) → Dec (newPlace s ch + newSize ch ≤ ch .meta .first)
+      go : Dec (ch .meta .first ≤ newPlace s ch) → Dec (ch .meta .first + ch .meta .capacity ≤ newPlace s ch)
+          → Dec (newPlace s ch + newSize ch ≤ ch .meta .first)
           → (ch .meta .first + ch .meta .capacity ≤ newPlace s ch) ⊎ (newPlace s ch + newSize ch ≤ ch .meta .first)
       go a (yes b) c = inl b
       go a (no b) (yes c) = inr c
@@ -437,9 +428,7 @@ module _ (s : Store) (P : Parts s) (ch : Change) (can : Granted s ch) (away : is
         fit = at-rest .slot .fit;
         covers = covers;
         apart = apart;
-        inlet = bared-inlet (s .owners) ch (ch .node) (at-rest .owned);
-        outlet = bared-outlet (s .owners) ch (ch .node) (at-rest .owned);
-        rest = λ i. bared-rest (s .owners) ch (ch .node) (at-rest .owned) i (at-rest .slot .fit) (omega (arith, at-rest .ends, P .slabs .room, P .slabs .equal));
+        kept = bared-kept (s .owners) ch (at-rest .owned) (at-rest .slot .fit) (slab-inside s P (ch .node) (ch .meta) (can .below) (can .is));
         fresh-dead = fresh .unowned;
         fresh-loose = fresh .unlinked;
         old-held = λ i l. omega (arith, at-rest .held i l);
@@ -464,20 +453,12 @@ module _ (s : Store) (P : Parts s) (ch : Change) (can : Granted s ch) (away : is
       }
 
   -- Each port is held once the old slab is freed as once the new one is taken, but for the old one.
-  held-less : (p : ℕ) → tookHeld s ch p ≡ with (heldAt (setEntry (s .slots) (ch .node) (Node (newMeta s ch))) (s .counters .nodemark)) (ch .meta .first) (ch .meta .capacity) p
+  held-less : (p : ℕ) → tookHeld s ch p ≡ with (newHeld s ch) (ch .meta .first) (ch .meta .capacity) p
   held-less p = sym (reslot s P (ch .node) (ch .meta) (newMeta s ch) (can .below) (can .is) fits .held p)
 
   -- The owner words of the new slab are written, and no other.
-  written-outside : (p : ℕ) → inSlab (newPlace s ch) (newSize ch) p ≡ 0 → getD (settledOwners s ch) p 0 ≡ getD (s .owners) p 0
-  written-outside p out = go (decLt p (newPlace s ch))
-    where
-      go : Dec (p < newPlace s ch) → getD (settledOwners s ch) p 0 ≡ getD (s .owners) p 0
-      go (yes l) = written-below (s .owners) (ch .node) (newPlace s ch) (ch .inlets) (ch .outlets) p l
-      go (no l) = written-above (s .owners) (ch .node) (newPlace s ch) (ch .inlets) (ch .outlets) p (above (decLt p (newPlace s ch + newSize ch)))
-        where
-          above : Dec (p < newPlace s ch + newSize ch) → newPlace s ch + ch .inlets + ch .outlets ≤ p
-          above (yes h) = absurd (omega (arith, inSlab-yes (newPlace s ch) (newSize ch) p (omega arith) h))
-          above (no h) = omega (arith, covers)
+  outside-same : (p : ℕ) → inSlab (newPlace s ch) (newSize ch) p ≡ 0 → getD (settledOwners s ch) p 0 ≡ getD (s .owners) p 0
+  outside-same p = written-outside (s .owners) (ch .node) (newPlace s ch) (ch .inlets) (ch .outlets) (newSize ch) p covers
 
   -- Nobody owned a port of the new slab.
   fresh-owner : (i : ℕ) → i < newSize ch → getD (s .owners) (newPlace s ch + i) 0 ≡ 0
@@ -487,22 +468,17 @@ module _ (s : Store) (P : Parts s) (ch : Change) (can : Granted s ch) (away : is
   inside = omega (arith, fresh .ends, fresh .inside, cut-length (s .links) ch, P .slabs .equal)
 
   written-owned : Owned (settledOwners s ch) (ch .node) (newMeta s ch)
-  written-owned =
-      record {
-        inlets-owned = λ i l. written-inlet (s .owners) (ch .node) (newPlace s ch) (ch .inlets) (ch .outlets) i l (omega (arith, inside, covers));
-        outlets-owned = λ i l. written-outlet (s .owners) (ch .node) (newPlace s ch) (ch .inlets) (ch .outlets) i l (omega (arith, inside, covers));
-        spare-unowned = λ i a b. written-above (s .owners) (ch .node) (newPlace s ch) (ch .inlets) (ch .outlets) (newPlace s ch + i) (omega arith) ∙ fresh-owner i b;
-      }
+  written-owned = owned-written (s .owners) (ch .node) (newMeta s ch) (omega (arith, inside, covers)) (λ i a b. fresh-owner i b)
 
   -- After the moves the slab part is true,
-  settled : Slabs (settledLinks s ch) (settledOwners s ch) (tookHeads s ch) (tookMark s ch) (with (heldAt (setEntry (s .slots) (ch .node) (Node (newMeta s ch))) (s .counters .nodemark)) (ch .meta .first) (ch .meta .capacity))
+  settled : Slabs (settledLinks s ch) (settledOwners s ch) (tookHeads s ch) (tookMark s ch) (with (newHeld s ch) (ch .meta .first) (ch .meta .capacity))
   settled =
       slabs-held
       (slabs-kept took (settledLinks s ch) (settledOwners s ch)
-      (into-carried (bared (s .owners) ch) (tookLinks s ch) ch (newPlace s ch) (newSize ch) (tookMark s ch) (tookHeld s ch) into .links-length)
+      (into-carried into .links-length)
       (written-length (s .owners) (ch .node) (newPlace s ch) (ch .inlets) (ch .outlets) ∙ sym (bared-length (s .owners) ch))
-      (λ p h. into-quiet (bared (s .owners) ch) (tookLinks s ch) ch (newPlace s ch) (newSize ch) (tookMark s ch) (tookHeld s ch) into .still p (bare p h) (gone p h))
-      (λ p h. written-outside p (omega arith) ∙ P .slabs .bare p (omega arith) ∙ sym (bare p h)))
+      (λ p h. into-quiet into .still p (bare p h) (gone p h))
+      (λ p h. outside-same p (omega arith) ∙ P .slabs .bare p (omega arith) ∙ sym (bare p h)))
       held-less
     where
       bare : (p : ℕ) → tookHeld s ch p ≡ 0 → getD (bared (s .owners) ch) p 0 ≡ 0
@@ -510,54 +486,35 @@ module _ (s : Store) (P : Parts s) (ch : Change) (can : Granted s ch) (away : is
 
       gone : (p : ℕ) → tookHeld s ch p ≡ 0 → getD (settledGhost s ch) p 0 ≡ 0
       gone p h =
-          into-outside (bared (s .owners) ch) (tookLinks s ch) ch (newPlace s ch) (newSize ch) (tookMark s ch) (tookHeld s ch) into p
+          into-outside into p
           (unheld-outside s P ch (can .below) (can .is) p (omega arith)) (omega arith)
           ∙ bare p h
 
   settled-wiring : Wiring (settledGhost s ch) (settledLinks s ch) (tookHeld s ch)
-  settled-wiring = into-wiring (bared (s .owners) ch) (tookLinks s ch) ch (newPlace s ch) (newSize ch) (tookMark s ch) (tookHeld s ch) into
+  settled-wiring = into-wiring into
 
   -- and the old slab has no wire left.
   old-loose : (i : ℕ) → i < ch .meta .capacity → getD (settledLinks s ch) (ch .meta .first + i) 0 ≡ 0
   old-loose i l =
       dead-loose settled-wiring (ch .meta .first + i) (into .old-held i l)
-      (into-old (bared (s .owners) ch) (tookLinks s ch) ch (newPlace s ch) (newSize ch) (tookMark s ch) (tookHeld s ch) into i l)
+      (into-old into i l)
 
-  freed : Freed (settledLinks s ch) (settledOwners s ch) (tookHeads s ch) (tookMark s ch) (heldAt (setEntry (s .slots) (ch .node) (Node (newMeta s ch))) (s .counters .nodemark)) (ch .meta)
+  freed : Freed (settledLinks s ch) (settledOwners s ch) (tookHeads s ch) (tookMark s ch) (newHeld s ch) (ch .meta)
   freed =
-      slab-freed (settledLinks s ch) (settledOwners s ch) (tookHeads s ch) (tookMark s ch) (heldAt (setEntry (s .slots) (ch .node) (Node (newMeta s ch))) (s .counters .nodemark)) (ch .meta)
+      slab-freed (settledLinks s ch) (settledOwners s ch) (tookHeads s ch) (tookMark s ch) (newHeld s ch) (ch .meta)
       (omega (arith, taken-heads-length (cutRemoved (s .links) ch) (s .heads) (newSize ch), at-rest .slot .sized)) old-loose settled
 
   -- The step's owner words are those of each port with a wire.
   agrees : (p : ℕ) → (getD (settledLinks s ch) p 0 ≡ 0 → ⊥) → getD (removedOwners (settledOwners s ch) (ch .meta)) p 0 ≡ getD (settledGhost s ch) p 0
   agrees p wired = by-old (decLe 1 (inSlab (ch .meta .first) (ch .meta .capacity) p))
     where
-      loose : (x : ℕ) → x < newSize ch → getD (settledGhost s ch) (newPlace s ch + x) 0 ≡ 0 → getD (settledLinks s ch) (newPlace s ch + x) 0 ≡ 0
-      loose x l dead = dead-loose settled-wiring (newPlace s ch + x) (into .new-held x l) dead
-
-      at : (x : ℕ) → p ≡ newPlace s ch + x → x < newSize ch → Dec (x < inletsKept ch) → Dec (ch .inlets ≤ x) → Dec (x < ch .inlets + outletsKept ch)
+      by-new : inSlab (ch .meta .first) (ch .meta .capacity) p ≡ 0 → Dec (1 ≤ inSlab (newPlace s ch) (newSize ch) p)
           → getD (settledOwners s ch) p 0 ≡ getD (settledGhost s ch) p 0
-      at x e l (yes a) b c =
-          rw e (written-owned .inlets-owned x (omega (arith, keeps ch))
-          ∙ sym (into-inlet (bared (s .owners) ch) (tookLinks s ch) ch (newPlace s ch) (newSize ch) (tookMark s ch) (tookHeld s ch) into x a))
-      at x e l (no a) (yes b) (yes c) =
-          let f : newPlace s ch + x ≡ newPlace s ch + ch .inlets + (x - ch .inlets) = omega arith in
-          rw (e, f) (written-owned .outlets-owned (x - ch .inlets) (omega (arith, keeps ch))
-          ∙ sym (into-outlet (bared (s .owners) ch) (tookLinks s ch) ch (newPlace s ch) (newSize ch) (tookMark s ch) (tookHeld s ch) into (x - ch .inlets) (omega arith)))
-      at x e l (no a) (yes b) (no c) =
-          absurd (wired (rw e (loose x l (into-dead (bared (s .owners) ch) (tookLinks s ch) ch (newPlace s ch) (newSize ch) (tookMark s ch) (tookHeld s ch) into x l (omega arith) (λ u v. c v)))))
-      at x e l (no a) (no b) c =
-          absurd (wired (rw e (loose x l (into-dead (bared (s .owners) ch) (tookLinks s ch) ch (newPlace s ch) (newSize ch) (tookMark s ch) (tookHeld s ch) into x l (omega arith) (λ u v. b u)))))
-
-      by-new : inSlab (ch .meta .first) (ch .meta .capacity) p ≡ 0 → Dec (1 ≤ inSlab (newPlace s ch) (newSize ch) p) → getD (settledOwners s ch) p 0 ≡ getD (settledGhost s ch) p 0
-      by-new out (yes h) =
-          let lies = inSlab-lies (newPlace s ch) (newSize ch) p h in
-          let x : ℕ = p - newPlace s ch in
-          at x (omega arith) (omega arith) (decLt x (inletsKept ch)) (decLe (ch .inlets) x) (decLt x (ch .inlets + outletsKept ch))
+      by-new out (yes h) = kept-agree (into-kept into) written-owned settled-wiring (into .new-held) p h wired
       by-new out (no h) =
-          written-outside p (omega arith)
+          outside-same p (omega arith)
           ∙ sym (bared-outside (s .owners) ch p (at-rest .slot .fit) out)
-          ∙ sym (into-outside (bared (s .owners) ch) (tookLinks s ch) ch (newPlace s ch) (newSize ch) (tookMark s ch) (tookHeld s ch) into p out (omega arith))
+          ∙ sym (into-outside into p out (omega arith))
 
       by-old : Dec (1 ≤ inSlab (ch .meta .first) (ch .meta .capacity) p) → getD (removedOwners (settledOwners s ch) (ch .meta)) p 0 ≡ getD (settledGhost s ch) p 0
       by-old (yes h) = absurd (wired (inSlab-each (λ q. getD (settledLinks s ch) q 0 ≡ 0) (ch .meta .first) (ch .meta .capacity) old-loose p h))
@@ -567,12 +524,11 @@ module _ (s : Store) (P : Parts s) (ch : Change) (can : Granted s ch) (away : is
 
   -- No live port is left in the old slab,
   old-gone : (p : ℕ) → Live (removedOwners (settledOwners s ch) (ch .meta)) p → inSlab (ch .meta .first) (ch .meta .capacity) p ≡ 0
-  old-gone p live = go (decLe 1 (inSlab (ch .meta .first) (ch .meta .capacity) p))
-    where
-      go : Dec (1 ≤ inSlab (ch .meta .first) (ch .meta .capacity) p) → inSlab (ch .meta .first) (ch .meta .capacity) p ≡ 0
-      go (yes h) =
-          absurd (live (inSlab-each (λ q. getD (removedOwners (settledOwners s ch) (ch .meta)) q 0 ≡ 0) (ch .meta .first) (ch .meta .capacity) (freed .owners-gone) p h))
-      go (no h) = omega arith
+  old-gone p live =
+      let owners′ : List ℕ = removedOwners (settledOwners s ch) (ch .meta) in
+      let out : 1 ≤ inSlab (ch .meta .first) (ch .meta .capacity) p → ⊥ =
+      λ h. live (inSlab-each (λ q. getD owners′ q 0 ≡ 0) (ch .meta .first) (ch .meta .capacity) (freed .owners-gone) p h) in
+      omega arith
 
   -- so freeing it leaves the link words of live ports.
   live-same : (p : ℕ) → Live (removedOwners (settledOwners s ch) (ch .meta)) p
@@ -586,9 +542,9 @@ module _ (s : Store) (P : Parts s) (ch : Change) (can : Granted s ch) (away : is
       changed-parts s P (ch .node) (ch .meta) (newMeta s ch) (can .below) (can .is) fits (removedLinks (settledLinks s ch) (tookHeads s ch) (ch .meta))
       (removedOwners (settledOwners s ch) (ch .meta)) (removedHeads (tookHeads s ch) (ch .meta)) (tookMark s ch)
       (s .counters .ports - (ch .meta .inlets + ch .meta .outlets) + (ch .inlets + ch .outlets)) (s .counters .links - cutWires (s .links) ch)
-      (freed .heads-length ∙ taken-heads-length (cutRemoved (s .links) ch) (s .heads) (newSize ch))
-      (λ p h out. inSlab-each (λ q. heldIn s q ≡ 0) (newPlace s ch) (newSize ch) (fresh .unheld) p h)
-      (λ p out out′. freed .owners-same p out ∙ written-outside p out′) owned (freed .slabs) wiring ports wires
+      (removed-heads-length (tookHeads s ch) (ch .meta) ∙ taken-heads-length (cutRemoved (s .links) ch) (s .heads) (newSize ch))
+      (λ p h out. new-unheld p h)
+      (λ p out out′. freed .owners-same p out ∙ outside-same p out′) owned (freed .slabs) wiring ports wires
     where
       owners′ : List ℕ
       owners′ = removedOwners (settledOwners s ch) (ch .meta)
@@ -596,53 +552,58 @@ module _ (s : Store) (P : Parts s) (ch : Change) (can : Granted s ch) (away : is
       links′ : List ℕ
       links′ = removedLinks (settledLinks s ch) (tookHeads s ch) (ch .meta)
 
-      held′ : ℕ → ℕ
-      held′ = heldAt (setEntry (s .slots) (ch .node) (Node (newMeta s ch))) (s .counters .nodemark)
-
-      new-outside : (i : ℕ) → i < newSize ch → inSlab (ch .meta .first) (ch .meta .capacity) (newPlace s ch + i) ≡ 0
-      new-outside i l = unheld-outside s P ch (can .below) (can .is) (newPlace s ch + i) (fresh .unheld i l)
+      new-unheld : (p : ℕ) → 1 ≤ inSlab (newPlace s ch) (newSize ch) p → heldIn s p ≡ 0
+      new-unheld = inSlab-each (λ q. heldIn s q ≡ 0) (newPlace s ch) (newSize ch) (fresh .unheld)
 
       owned : Owned owners′ (ch .node) (newMeta s ch)
-      owned = owned-kept (settledOwners s ch) owners′ (ch .node) (newMeta s ch) covers (λ i l. freed .owners-same (newPlace s ch + i) (new-outside i l)) written-owned
+      owned = owned-kept written-owned owners′ covers (λ p h. freed .owners-same p (unheld-outside s P ch (can .below) (can .is) p (new-unheld p h)))
 
-      was : (p q : ℕ) → 1 ≤ held′ p → getD links′ p 0 ≡ suc q → (1 ≤ tookHeld s ch p) × (getD (settledLinks s ch) p 0 ≡ suc q)
+      was : (p q : ℕ) → 1 ≤ newHeld s ch p → getD links′ p 0 ≡ suc q → (1 ≤ tookHeld s ch p) × (getD (settledLinks s ch) p 0 ≡ suc q)
       was p q h e = (omega (arith, held-less p), sym (freed .links-same p (omega (arith, held-less p, held-le took p))) ∙ e)
 
-      wiring : Wiring owners′ links′ held′
+      wiring : Wiring owners′ links′ (newHeld s ch)
       wiring =
-          relinked-wiring owners′ (settledLinks s ch) links′ live-same (tookHeld s ch) held′ was
+          relinked-wiring owners′ (settledLinks s ch) links′ live-same (tookHeld s ch) (newHeld s ch) was
           (written-wiring (settledGhost s ch) owners′ (settledLinks s ch) agrees settled-wiring)
-
-      above : (p : ℕ) → s .counters .portmark ≤ p → getD (s .owners) p 0 ≡ 0
-      above p l = P .slabs .bare p (omega (arith, P .slabs .within p l))
 
       raised : s .counters .portmark ≤ tookMark s ch
       raised = taken-mark (s .heads) (s .counters .portmark) (newSize ch)
 
-      before : LiveFirst (s .owners) (ch .meta .first) (ch .meta .capacity) (ch .meta .inlets + ch .meta .outlets)
-      before = owned-live (s .owners) (ch .node) (ch .meta) (at-rest .slot .fit) (at-rest .owned)
-
       ports : s .counters .ports - (ch .meta .inlets + ch .meta .outlets) + (ch .inlets + ch .outlets) ≡ livePorts owners′ (tookMark s ch)
       ports =
-          omega
-          (arith, P .counted .ports, ports-raise (s .owners) (s .counters .portmark) (tookMark s ch) raised above, ports-some (s .owners) (ch .meta .first) (ch .meta .capacity) (ch .meta .inlets + ch .meta .outlets) (s .counters .portmark) (at-rest .ends) before, ports-changed (s .owners) (settledOwners s ch) (newPlace s ch) (newSize ch) 0 (ch .inlets + ch .outlets) (tookMark s ch) (fresh .ends) none (owned-live (settledOwners s ch) (ch .node) (newMeta s ch) covers written-owned) written-outside, ports-changed (settledOwners s ch) owners′ (ch .meta .first) (ch .meta .capacity) (ch .meta .inlets + ch .meta .outlets) 0 (tookMark s ch) (into .old-ends) still gone (freed .owners-same))
+          omega (
+            arith,
+            P .counted .ports,
+            ports-more (s .owners) (s .counters .portmark) (tookMark s ch) raised (bare-above (port-table s P)),
+            ports-some (s .owners) (ch .meta .first) (ch .meta .capacity) (s .counters .portmark) (at-rest .ends),
+            ports-change (s .owners) (settledOwners s ch) (newPlace s ch) (newSize ch) (tookMark s ch) (fresh .ends) outside-same,
+            ports-change (settledOwners s ch) owners′ (ch .meta .first) (ch .meta .capacity) (tookMark s ch) (into .old-ends) (freed .owners-same),
+            ports-none (s .owners) (newPlace s ch) (newSize ch) fresh-owner,
+            ports-none owners′ (ch .meta .first) (ch .meta .capacity) (freed .owners-gone),
+            owned-ports (at-rest .owned) (at-rest .slot .fit),
+            owned-ports written-owned covers,
+            owned-ports still (at-rest .slot .fit),
+          )
         where
-          none : LiveFirst (s .owners) (newPlace s ch) (newSize ch) 0
-          none = record { fit = omega arith; some-live = λ i l. absurd (omega arith); rest-dead = λ i a b. fresh-owner i b }
+          old-outside : (p : ℕ) → 1 ≤ inSlab (ch .meta .first) (ch .meta .capacity) p → inSlab (newPlace s ch) (newSize ch) p ≡ 0
+          old-outside p h =
+              let new : 1 ≤ inSlab (newPlace s ch) (newSize ch) p → ⊥ =
+              λ h′. omega (arith, new-unheld p h′, unheld-outside s P ch (can .below) (can .is) p (new-unheld p h′)) in
+              omega arith
 
-          gone : LiveFirst owners′ (ch .meta .first) (ch .meta .capacity) 0
-          gone = record { fit = omega arith; some-live = λ i l. absurd (omega arith); rest-dead = λ i a b. freed .owners-gone i b }
-
-          same : (i : ℕ) → i < ch .meta .capacity → getD (settledOwners s ch) (ch .meta .first + i) 0 ≡ getD (s .owners) (ch .meta .first + i) 0
-          same i l =
-              written-outside (ch .meta .first + i)
-              (elim (decLe 1 (inSlab (newPlace s ch) (newSize ch) (ch .meta .first + i)))
-              [ yes h ↦ absurd (omega (arith, at-rest .held i l, inSlab-each (λ q. heldIn s q ≡ 0) (newPlace s ch) (newSize ch) (fresh .unheld) (ch .meta .first + i) h)) | no h ↦ omega arith ])
-
-          still : LiveFirst (settledOwners s ch) (ch .meta .first) (ch .meta .capacity) (ch .meta .inlets + ch .meta .outlets)
-          still = owned-live (settledOwners s ch) (ch .node) (ch .meta) (at-rest .slot .fit) (owned-kept (s .owners) (settledOwners s ch) (ch .node) (ch .meta) (at-rest .slot .fit) same (at-rest .owned))
+          still : Owned (settledOwners s ch) (ch .node) (ch .meta)
+          still = owned-kept (at-rest .owned) (settledOwners s ch) (at-rest .slot .fit) (λ p h. outside-same p (old-outside p h))
 
       wires : s .counters .links - cutWires (s .links) ch ≡ pairs owners′ links′ (tookMark s ch)
       wires =
-          omega
-          (arith, P .counted .links, cut-pairs s P ch at-rest, pairs-raise (s .owners) (cutRemoved (s .links) ch) (s .counters .portmark) (tookMark s ch) raised above, bared-pairs (s .owners) (s .links) ch (tookMark s ch), take-pairs cut-slabs (newSize ch) some (can .sized away) had (tookMark s ch), into-carried (bared (s .owners) ch) (tookLinks s ch) ch (newPlace s ch) (newSize ch) (tookMark s ch) (tookHeld s ch) into .wires, written-pairs (settledGhost s ch) owners′ (settledLinks s ch) agrees (tookMark s ch), relinked-pairs owners′ (settledLinks s ch) links′ live-same (tookMark s ch))
+          omega (
+            arith,
+            P .counted .links,
+            cut-pairs s P ch at-rest,
+            pairs-more (s .owners) (cutRemoved (s .links) ch) (s .counters .portmark) (tookMark s ch) raised (bare-above (port-table s P)),
+            bared-pairs (s .owners) (s .links) ch (tookMark s ch),
+            take-pairs cut-slabs (newSize ch) some (can .sized away) had (tookMark s ch),
+            into-carried into .wires,
+            written-pairs (settledGhost s ch) owners′ (settledLinks s ch) agrees (tookMark s ch),
+            relinked-pairs owners′ (settledLinks s ch) links′ live-same (tookMark s ch),
+          )

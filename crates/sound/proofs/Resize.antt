@@ -1,14 +1,12 @@
 -- Resize, call 3, keeps a sound store: refused and unchanged, in place, and into a new slab.
-use Prim.Native.Nat.{ℕ, _<_}
-use mathlib.Core.List.{List, []}
-use mathlib.Core.Path.{_≡_, refl, sym, _∙_}
+use Prim.Native.Nat.{ℕ}
+use mathlib.Core.List.{[]}
+use mathlib.Core.Path.{_≡_, refl}
 use mathlib.Core.Bool.{Bool, true, false}
-use native.Mathlib.Omega.{arith}
 use lib.ListN.{length}
 use lib.Dec.{ltb}
-use borrow.Author.Tests.{ltb-true, ltb-false}
+use borrow.Author.Tests.{ltb-false}
 use Rattle.slabs.specs.Choice.{pick}
-use Rattle.slabs.specs.NodeEntry.{nodeEntry}
 use Rattle.slabs.specs.Slab.{atHand}
 use Rattle.slabs.specs.declared.node_entry.NodeMeta.{NodeMeta}
 use Rattle.slabs.specs.declared.node_entry.NodeEntry.{NodeEntry}
@@ -23,10 +21,11 @@ use Rattle.renumber.specs.declared.resize.Change.{Change}
 use Rattle.calls.specs.Call.{decided, changeCall, resizeCall}
 use Rattle.sound.specs.Sound.{Shaped, Sound}
 use Rattle.sound.proofs.Parts.{Parts, parts-of, sound-of}
-use Rattle.sound.proofs.Kept.{decided-store}
+use Rattle.sound.proofs.Kept.{decided-store, done-past, done-by}
 use Rattle.sound.proofs.Changes.{Granted}
 use Rattle.sound.proofs.InPlace.{in-place-fits, in-place-parts}
 use Rattle.sound.proofs.Reallocate.{into-parts}
+use Rattle.sound.proofs.SlotLaws.{nodeAt-live}
 
 -- A step that changes, in place or into a new slab, leaves the parts of a sound store.
 pub resized-parts : (s : Store) → Parts s → (ch : Change) → Granted s ch → Parts (resized s ch)
@@ -37,37 +36,25 @@ resized-parts s P ch can = go (isInPlace ch) refl
     go true e = rw e (in-place-parts s P ch can (in-place-fits ch e .1))
     go false e = rw e (into-parts s P ch can e)
 
--- A live slot is one below the mark.
-pub node-below : (slots : List ℕ) (mark k : ℕ) (m : NodeMeta) → nodeAt slots mark k ≡ Node m → (k < mark) × (nodeEntry slots k ≡ Node m)
-unfolding nodeAt
-node-below slots mark k m e = go (ltb k mark) refl e
-  where
-    go : (t : Bool) → ltb k mark ≡ t → pick t (nodeEntry slots k) (Free 0 0) ≡ Node m → (k < mark) × (nodeEntry slots k ≡ Node m)
-    go true l f = (ltb-true k mark l, f)
-    go false l f = let z : _≡_ {A = ℕ} 0 1 = cc in absurd (omega arith)
-
--- A test that refuses did not hold where the answer is done.
-passed : (t : Bool) (refusal answer : Answer) → isDone refusal ≡ false → isDone (pick t refusal answer) ≡ true → (t ≡ false) × (isDone answer ≡ true)
-passed true refusal answer no-way e = let z : _≡_ {A = Bool} true false = sym e ∙ no-way in let n : _≡_ {A = ℕ} 0 1 = cc in absurd (omega arith)
-passed false refusal answer no-way e = (refl, e)
-
 -- What a resize that is done may count on.
 pub resize-granted : (s : Store) (left : ℕ) (ch : Change) → nodeAt (s .slots) (s .counters .nodemark) (ch .node) ≡ Node (ch .meta) → isIdle ch ≡ false
     → isDone (resizeAnswer (s .slots) (length (s .links)) (s .heads) (s .counters) left (ch .node) (ch .inlets) (ch .outlets)) ≡ true
     → Granted s ch
 unfolding resizeAnswer changeAnswer
 resize-granted s left ch is busy done =
-    let few-in = passed (ltb most (ch .inlets)) TooManyPorts (pick (ltb most (ch .outlets)) TooManyPorts live) refl done in
-    let few-out = passed (ltb most (ch .outlets)) TooManyPorts live refl (few-in .1) in
+    let few-in = done-past (ltb most (ch .inlets)) TooManyPorts (pick (ltb most (ch .outlets)) TooManyPorts live) refl done in
+    let few-out = done-past (ltb most (ch .outlets)) TooManyPorts live refl (few-in .1) in
     let changes : isDone change ≡ true = rw is at (few-out .1) in
-    let (below, entry) = node-below (s .slots) (s .counters .nodemark) (ch .node) (ch .meta) is in
+    let (below, entry) = nodeAt-live (s .slots) (s .counters .nodemark) (ch .node) (ch .meta) is in
     record {
       below = below;
       is = entry;
       few-inlets = ltb-false most (ch .inlets) (few-in .0);
       few-outlets = ltb-false most (ch .outlets) (few-out .0);
       sized = λ away. ltb-false (length (s .heads)) (newSize ch) (large (rw (busy, away) at changes) .0);
-      slab = λ away. had (atHand (s .heads) (s .counters .portmark) (length (s .links)) (newSize ch)) (large (rw (busy, away) at changes) .1);
+      slab = λ away.
+          done-by (atHand (s .heads) (s .counters .portmark) (length (s .links)) (newSize ch)) (logAnswer left ch) NoSlab refl
+          (large (rw (busy, away) at changes) .1) .0;
     }
   where
     change : Answer
@@ -83,11 +70,7 @@ resize-granted s left ch is busy done =
     into = pick (atHand (s .heads) (s .counters .portmark) (length (s .links)) (newSize ch)) (logAnswer left ch) NoSlab
 
     large : isDone (pick (ltb (length (s .heads)) (newSize ch)) SlabTooLarge into) ≡ true → (ltb (length (s .heads)) (newSize ch) ≡ false) × (isDone into ≡ true)
-    large e = passed (ltb (length (s .heads)) (newSize ch)) SlabTooLarge into refl e
-
-    had : (t : Bool) → isDone (pick t (logAnswer left ch) NoSlab) ≡ true → t ≡ true
-    had true e = refl
-    had false e = e
+    large e = done-past (ltb (length (s .heads)) (newSize ch)) SlabTooLarge into refl e
 
 -- Resize keeps a sound store.
 pub resize-sound : (s : Store) → Shaped s → Sound s → (left node inlets outlets : ℕ) → Sound ((resizeCall s left node inlets outlets) .store)

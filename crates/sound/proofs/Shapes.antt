@@ -20,7 +20,7 @@ use Rattle.edits.specs.Steps.{newLinks, newHeads, added, removedLinks, removedO
 use Rattle.edits.specs.Swap.{arrivedSlots, arrivedOwners, swappedSlots, swappedOwners, swapped}
 use Rattle.edits.specs.declared.answer.Answer.{Answer}
 use Rattle.renumber.specs.Records.{Rec}
-use Rattle.renumber.specs.Moves.{carried, moved, movedRun}
+use Rattle.renumber.specs.Moves.{movedRun}
 use Rattle.renumber.specs.Resize.{cutInlets, cutRemoved, changedSlots, inPlaceOwners, resizedInPlace, movedInto, reallocatedLinks, resizedInto, isInPlace, isIdle, resized}
 use Rattle.renumber.specs.Compact.{packedSlots, renamedOwners, compactedSlots, nodesCompacted, packedLinks, packedOwners, followed, followedSlots, slabDropped, slabsDropped, emptiedAbove, portsCompacted}
 use Rattle.renumber.specs.declared.moves.Run.{Run}
@@ -30,6 +30,7 @@ use Rattle.calls.specs.declared.Call.{Call}
 use Rattle.sound.specs.Sound.{Shaped}
 use Rattle.sound.proofs.Kept.{pick-both, pick-same, node-both, node-same, each-call, decided-store}
 use Rattle.sound.proofs.Wires.{joined-length}
+use Rattle.sound.proofs.MoveLaws.{moved-length}
 
 -- The length of a table that is picked is one of the two lengths.
 length-pick : (t : Bool) (a b : List ℕ) → length (pick t a b) ≡ pick t (length a) (length b)
@@ -65,61 +66,84 @@ same-shaped s t same shaped =
       few-heads = omega (arith, same .heads, shaped .few-heads);
     }
 
+-- The table of heads keeps its length when a slab is taken,
+pub taken-heads-length : (links heads : List ℕ) (size : ℕ) → length (takenHeads links heads size) ≡ length heads
+unfolding takenHeads
+taken-heads-length links heads size = simp lengths
+
+-- for a new step too,
+pub new-heads-length : (links heads : List ℕ) (total : ℕ) → length (newHeads links heads total) ≡ length heads
+unfolding newHeads
+new-heads-length links heads total = simp (lengths, taken-heads-length)
+
+-- when one is freed,
+pub freed-heads-length : (heads : List ℕ) (first size : ℕ) → length (freedHeads heads first size) ≡ length heads
+unfolding freedHeads
+freed-heads-length heads first size = simp lengths
+
+-- and when a step goes.
+pub removed-heads-length : (heads : List ℕ) (m : NodeMeta) → length (removedHeads heads m) ≡ length heads
+unfolding removedHeads
+removed-heads-length heads m = simp (lengths, freed-heads-length)
+
+-- What each change of the store leaves of the lengths: Clear,
 cleared-shape : (s : Store) → SameShape s (cleared s)
 unfolding cleared
 cleared-shape s = record { slots = simp lengths; links = simp lengths; owners = simp lengths; heads = simp lengths }
 
+-- a step that is added,
 added-shape : (s : Store) (inlets outlets : ℕ) → SameShape s (added s inlets outlets)
 unfolding added newLinks newHeads takenLinks takenHeads slotTaken setPrevious
 added-shape s inlets outlets = record { slots = simp lengths; links = simp lengths; owners = simp lengths; heads = simp lengths }
 
+-- or removed,
 removed-shape : (s : Store) (node : ℕ) (m : NodeMeta) → SameShape s (removed s node m)
 unfolding removed slotFreed setPrevious removedLinks removedOwners removedHeads freedLinks freedOwners freedHeads
 removed-shape s node m = record { slots = simp lengths; links = simp lengths; owners = simp lengths; heads = simp lengths }
 
--- An entry that arrives leaves the lengths of the slots
+-- an entry that arrives, of the slots
 arrived-length : (slots : List ℕ) (node : ℕ) (e : NodeEntry) → length (arrivedSlots slots node e) ≡ length slots
 unfolding arrivedSlots setPrevious setNext
 arrived-length slots node (Node m) = simp lengths
 arrived-length slots node (Free previous next) = simp lengths
 
--- and of the owners.
+-- and of the owners,
 owners-length : (owners : List ℕ) (node : ℕ) (e : NodeEntry) → length (arrivedOwners owners node e) ≡ length owners
 unfolding arrivedOwners
 owners-length owners node (Node m) = simp lengths
 owners-length owners node (Free previous next) = refl
 
+-- two slots that are swapped,
 swapped-shape : (s : Store) (a b : ℕ) → SameShape s (swapped s a b)
 unfolding swapped swappedSlots swappedOwners
 swapped-shape s a b = record { slots = simp (lengths, arrived-length); links = refl; owners = simp (lengths, owners-length); heads = refl }
 
--- A moved port leaves the length of the links,
-moved-length : (links : List ℕ) (old new : ℕ) → length (moved links old new) ≡ length links
-unfolding moved carried
-moved-length links old new = simp lengths
-
--- and so does a run of them.
+-- a run of ports that move,
 run-length : (links : List ℕ) (run : Run) (i : ℕ) → length (movedRun links run i) ≡ length links
 unfolding movedRun
 run-length links run zero = refl
 run-length links run (suc i) = moved-length _ _ _ ∙ run-length links run i
 
+-- a step that is resized,
 resized-shape : (s : Store) (ch : Change) → SameShape s (resized s ch)
 unfolding resized resizedInPlace resizedInto changedSlots inPlaceOwners cutRemoved cutInlets reallocatedLinks movedInto removedLinks removedOwners removedHeads takenLinks takenHeads freedLinks freedOwners freedHeads
 resized-shape s ch = pick-both (SameShape s) (isInPlace ch) (resizedInPlace s ch) (resizedInto s ch)
     (record { slots = simp lengths; links = simp (lengths, run-length); owners = simp lengths; heads = refl })
     (record { slots = simp lengths; links = simp (lengths, run-length); owners = simp lengths; heads = simp lengths })
 
+-- the slots that go down in the compaction of nodes,
 pub packed-length : (slots : List ℕ) (k : ℕ) → length (packedSlots slots k) ≡ length slots
 unfolding packedSlots
 packed-length slots zero = refl
 packed-length slots (suc k) = simp (lengths, packed-length slots k)
 
+-- the owner words that follow them,
 pub renamed-length : (slots owners : List ℕ) (k : ℕ) → length (renamedOwners slots owners k) ≡ length owners
 unfolding renamedOwners
 renamed-length slots owners zero = refl
 renamed-length slots owners (suc k) = simp (lengths, renamed-length slots owners k)
 
+-- and so the compaction of nodes.
 pub nodes-shape : (s : Store) → SameShape s (nodesCompacted s)
 unfolding nodesCompacted compactedSlots
 nodes-shape s = record { slots = simp (lengths, packed-length); links = refl; owners = simp renamed-length; heads = refl }
@@ -142,12 +166,13 @@ unfolding followedSlots followed
 followed-length slots owners zero = refl
 followed-length slots owners (suc p) = simp (lengths, followed-length slots owners p)
 
--- and those that have no port left.
+-- those that have no port left,
 pub dropped-length : (slots : List ℕ) (k : ℕ) → length (slabsDropped slots k) ≡ length slots
 unfolding slabsDropped slabDropped
 dropped-length slots zero = refl
 dropped-length slots (suc k) = simp (lengths, dropped-length slots k)
 
+-- and so the compaction of ports.
 pub ports-shape : (s : Store) → SameShape s (portsCompacted s)
 unfolding portsCompacted emptiedAbove
 ports-shape s =

@@ -1,10 +1,10 @@
 -- The table of slots when the live ports go down: a step's first port goes with its slab, which keeps what it needs, and a step without
 -- ports has none.
-use Prim.Native.Nat.{ℕ, suc, zero, _+_, _-_, _*_, _≤_, _<_}
+use Prim.Native.Nat.{ℕ, suc, zero, _+_, _*_, _≤_, _<_}
 use mathlib.Core.Path.{_≡_, refl, sym, ap, _∙_}
 use mathlib.Core.List.{List}
 use native.Mathlib.Omega.{arith}
-use native.Mathlib.Decide.{ℕ-discrete, decLt}
+use native.Mathlib.Decide.{ℕ-discrete}
 use native.Mathlib.Nat.{add-zero}
 use lib.ListN.{length, getD}
 use lib.Dec.{eqb}
@@ -20,13 +20,14 @@ use Rattle.edits.specs.Store.{Store, onNode}
 use Rattle.edits.specs.Counts.{livePorts}
 use Rattle.renumber.specs.Compact.{followed, followedSlots, slabDropped, slabsDropped}
 use Rattle.sound.specs.Sound.{Shaped, Sound}
-use Rattle.sound.proofs.Parts.{parts-of}
-use Rattle.sound.proofs.Fits.{few-nodes, live-slot, slab-ends, OwnerOf, live-owner, owner-names}
+use Rattle.sound.proofs.Parts.{parts-of, slot-table, Parts}
+use Rattle.sound.proofs.Fits.{few-nodes, slab-ends, OwnerOf, live-owner, owner-names}
 use Rattle.sound.proofs.Kept.{pick-both}
-use Rattle.sound.proofs.SlotLaws.{entry-live, live-says}
-use Rattle.sound.proofs.OwnerLaws.{owned-port}
+use Rattle.sound.proofs.SlotLaws.{entry-live, live-says, node-is}
+use Rattle.sound.proofs.OwnerLaws.{owned-port, owned-few}
 use Rattle.sound.proofs.Shapes.{dropped-length}
 use Rattle.sound.proofs.PortPacking.{port-low}
+use Rattle.sound.proofs.SlotTable.{live-slot}
 
 -- a step whose slab has gone down
 abbrev pub gone : List ℕ → NodeMeta → NodeMeta
@@ -90,9 +91,7 @@ module _ (s : Store) (shaped : Shaped s) (sound : Sound s) where
         down : (j : ℕ) (n : NodeMeta) → j < s .counters .nodemark → nodeEntry (s .slots) j ≡ Node n → 1 ≤ n .inlets + n .outlets → n .first < suc p
             → Dec (j ≡ k) → nodeEntry (setEntry table k (Node (gone (s .owners) m))) j ≡ Node (gone (s .owners) n)
         down j n lj is′ some′ b (yes same) =
-            let here : nodeEntry (s .slots) k ≡ Node n = rw same at is′ in
-            let it : n ≡ m = cc in
-            rw (same, it) (entry-same table k (Node (gone (s .owners) m)) (omega (arith, so-far .long, sound .marks .nodes-inside)))
+            rw (same, node-is (sym (rw same at is′) ∙ is)) (entry-same table k (Node (gone (s .owners) m)) (omega (arith, so-far .long, sound .marks .nodes-inside)))
         down j n lj is′ some′ b (no d) =
             let apart : n .first ≡ p → ⊥ = λ z. d (turn-own j n lj is′ some′ z) in
             entry-other table k j (Node (gone (s .owners) m)) d ∙ so-far .down j n lj is′ some′ (omega arith)
@@ -100,9 +99,7 @@ module _ (s : Store) (shaped : Shaped s) (sound : Sound s) where
         still : (j : ℕ) (n : NodeMeta) → j < s .counters .nodemark → nodeEntry (s .slots) j ≡ Node n → (1 ≤ n .inlets + n .outlets → suc p ≤ n .first)
             → Dec (j ≡ k) → nodeEntry (setEntry table k (Node (gone (s .owners) m))) j ≡ Node n
         still j n lj is′ later (yes same) =
-            let here : nodeEntry (s .slots) k ≡ Node n = rw same at is′ in
-            let it : n ≡ m = cc in
-            absurd (omega (arith, rw it at later some))
+            absurd (omega (arith, rw (node-is (sym (rw same at is′) ∙ is)) at later some))
         still j n lj is′ later (no d) =
             entry-other table k j (Node (gone (s .owners) m)) d ∙ so-far .still j n lj is′ (λ some′. omega (arith, later some′))
 
@@ -122,20 +119,7 @@ module _ (s : Store) (shaped : Shaped s) (sound : Sound s) where
         other : (j : ℕ) (n : NodeMeta) → j < s .counters .nodemark → nodeEntry (s .slots) j ≡ Node n → 1 ≤ n .inlets + n .outlets → n .first ≡ p → ⊥
         other j n lj is′ some′ e =
             let same : j ≡ k = turn-own j n lj is′ some′ e in
-            let here : nodeEntry (s .slots) k ≡ Node n = rw same at is′ in
-            let it : n ≡ m = cc in
-            d (rw it at e)
-
-  -- A live port of a step's slab is an inlet or an outlet.
-  pub port-of : (k : ℕ) (m : NodeMeta) (p : ℕ) → k < s .counters .nodemark → nodeEntry (s .slots) k ≡ Node m → Live (s .owners) p
-      → m .first ≤ p → p < m .first + m .capacity → p < m .first + (m .inlets + m .outlets)
-  port-of k m p l is live low high = go (decLt p (m .first + (m .inlets + m .outlets)))
-    where
-      go : Dec (p < m .first + (m .inlets + m .outlets)) → p < m .first + (m .inlets + m .outlets)
-      go (yes b) = b
-      go (no b) =
-          let e : m .first + (p - m .first) ≡ p = omega arith in
-          absurd (live (rw e at (sound .owners .live k l m is .spare-unowned (p - m .first) (omega arith) (omega arith))))
+            d (rw (node-is (sym (rw same at is′) ∙ is)) at e)
 
   -- So the slots follow the ports.
   pub followed-to : (p : ℕ) → Followed s (followedSlots (s .slots) (s .owners) p) p
@@ -152,7 +136,7 @@ module _ (s : Store) (shaped : Shaped s) (sound : Sound s) where
       turn o live d so-far = by d
         where
           some : 1 ≤ o .meta .inlets + o .meta .outlets
-          some = omega (arith, o .lies, port-of (o .node) (o .meta) p (o .below) (o .is) live (o .lies) (o .ends))
+          some = omega (arith, o .lies, owned-few (sound .owners .live (o .node) (o .below) (o .meta) (o .is)) p live (o .lies) (o .ends))
 
           by : Dec (o .meta .first ≡ p) → Followed s (followed table (o .node) p (livePorts (s .owners) p)) (suc p)
           by (yes e) = turn-first table p (o .node) (o .meta) (o .below) (o .is) some (o .lies) (owner-names s shaped sound p o) so-far e
@@ -290,6 +274,9 @@ slabs-down s shaped sound =
       others = λ i aside. dropped-others table mark i (λ k m l is. there k m l is i aside (ℕ-discrete (slotWord (s .slots) k 1) 0)) ∙ so-far .others i aside;
     }
   where
+    P : Parts s
+    P = parts-of s shaped sound
+
     mark : ℕ
     mark = s .counters .nodemark
 
@@ -306,7 +293,7 @@ slabs-down s shaped sound =
         ∙ ap Node (sym (tight-none (s .owners) m e))
     live k m l is (no n) =
         dropped-some table mark k (gone (s .owners) m) l
-        (so-far .down k m l is (omega arith) (omega (arith, slab-ends s (parts-of s shaped sound) k m l is, live-slot s sound k m l is))) n
+        (so-far .down k m l is (omega arith) (omega (arith, slab-ends s P k m l is, live-slot (slot-table s P) k m l is))) n
         ∙ ap Node (sym (tight-some (s .owners) m n))
 
     there : (k : ℕ) (m : NodeMeta) → k < mark → nodeEntry table k ≡ Node m → (i : ℕ) → Aside (s .slots) mark i

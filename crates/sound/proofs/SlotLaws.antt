@@ -4,11 +4,11 @@ use Prim.Native.Nat.{ℕ, suc, zero, _+_, _-_, _*_, _≤_, _<_}
 use mathlib.Core.Path.{_≡_, refl, sym, ap, _∙_}
 use mathlib.Core.List.{List}
 use native.Mathlib.Omega.{arith}
-use native.Mathlib.Decide.{ℕ-discrete}
+use native.Mathlib.Decide.{ℕ-discrete, decLt}
 use lib.ListN.{length, getD, set, length-set}
 use lib.Seq.{getD-set-same, getD-set-other}
 use lib.Dec.{eqb, ltb}
-use borrow.Author.Tests.{eq-eqb, ne-eqb}
+use borrow.Author.Tests.{eq-eqb, ne-eqb, lt-ltb, le-ltb}
 use Rattle.slabs.specs.Choice.{pick}
 use Rattle.slabs.specs.Sums.{sum}
 use Rattle.slabs.specs.NodeEntry.{width, slotWord, nodeEntry}
@@ -16,8 +16,8 @@ use Rattle.slabs.specs.Slabs.{inSlab}
 use Rattle.slabs.specs.declared.node_entry.NodeMeta.{NodeMeta}
 use Rattle.slabs.specs.declared.node_entry.NodeEntry.{NodeEntry}
 use Rattle.slabs.specs.declared.node_entry.NodeEntry.the-variants.{Free, Node}
-use Rattle.slabs.proofs.SumLaws.{sum-ext, sum-change, sum-term, sum-two}
-use Rattle.edits.specs.Store.{onNode}
+use Rattle.slabs.proofs.SumLaws.{sum-change, sum-term, sum-two}
+use Rattle.edits.specs.Store.{onNode, nodeAt}
 use Rattle.edits.specs.FreeSlots.{setPrevious, setNext}
 use Rattle.edits.specs.Counts.{some, liveSlots}
 use Rattle.sound.specs.Sound.{SlotSays, heldAt}
@@ -26,6 +26,14 @@ use Rattle.sound.specs.Sound.{SlotSays, heldAt}
 abbrev pub stepOf : NodeEntry → NodeEntry
 stepOf (Free previous next) = Free 0 0
 stepOf (Node m) = Node m
+
+-- A free entry is no live one,
+pub free-node : {previous next : ℕ} {m : NodeMeta} → Free previous next ≡ Node m → ⊥
+free-node e = let z : _≡_ {A = ℕ} 0 1 = cc in omega arith
+
+-- and a live one is of one step.
+pub node-is : {m n : NodeMeta} → Node m ≡ Node n → m ≡ n
+node-is e = cc
 
 -- 1 where port p lies in the slab of a live entry
 abbrev pub slabOf : NodeEntry → ℕ → ℕ
@@ -50,9 +58,7 @@ onNode-same e e′ f other same = sym (onNode-step e′ f other) ∙ ap (λ x. o
 
 -- An entry that says the same of a step as a live one is that one.
 pub step-node : (e e′ : NodeEntry) (m : NodeMeta) → stepOf e′ ≡ stepOf e → e′ ≡ Node m → e ≡ Node m
-step-node (Free previous next) e′ m same is =
-    let z : Free 0 0 ≡ Node m = sym same ∙ ap stepOf is in
-    let n : _≡_ {A = ℕ} 0 1 = cc in absurd (omega arith)
+step-node (Free previous next) e′ m same is = absurd (free-node (sym same ∙ ap stepOf is))
 step-node (Node n) e′ m same is = sym same ∙ ap stepOf is
 
 -- A slot whose second word is 0 is free.
@@ -76,15 +82,22 @@ free-says slots k previous next is = go (ℕ-discrete (slotWord slots k 1) 0)
     go (yes e) =
         let same : Free (slotWord slots k 0) (slotWord slots k 2) ≡ Free previous next = sym (entry-free slots k e) ∙ is in
         (e, cc, cc)
-    go (no n) =
-        let same : Free previous next ≡ Node _ = sym is ∙ entry-live slots k n in
-        let z : _≡_ {A = ℕ} 0 1 = cc in absurd (omega arith)
+    go (no n) = absurd (free-node (sym is ∙ entry-live slots k n))
+
+-- the words of a free slot
+abbrev pub FreeWords : List ℕ → ℕ → ℕ → ℕ → Type 0
+FreeWords slots k previous next =
+    (slotWord slots k 0 ≡ previous) × (slotWord slots k 1 ≡ 0) × (slotWord slots k 2 ≡ next) × (slotWord slots k 3 ≡ 0)
+
+-- They are its own as long as they stay.
+pub words-kept : (slots slots′ : List ℕ) (k : ℕ) {previous next : ℕ} → ((l : ℕ) → l < width → slotWord slots′ k l ≡ slotWord slots k l)
+    → FreeWords slots k previous next → FreeWords slots′ k previous next
+words-kept slots slots′ k same words =
+    (same 0 (omega arith) ∙ words .0, same 1 (omega arith) ∙ words .1, same 2 (omega arith) ∙ words .2, same 3 (omega arith) ∙ words .3)
 
 -- A live slot's second word is not 0,
 pub live-says : (slots : List ℕ) (k : ℕ) (m : NodeMeta) → nodeEntry slots k ≡ Node m → slotWord slots k 1 ≡ 0 → ⊥
-live-says slots k m is e =
-    let same : Free _ _ ≡ Node m = sym (entry-free slots k e) ∙ is in
-    let z : _≡_ {A = ℕ} 0 1 = cc in omega arith
+live-says slots k m is e = free-node (sym (entry-free slots k e) ∙ is)
 
 -- and its four words are its first port, its counts and its capacity.
 pub live-words : (slots : List ℕ) (k : ℕ) (m : NodeMeta) → nodeEntry slots k ≡ Node m
@@ -93,9 +106,17 @@ live-words slots k m is =
     let there : NodeMeta =
     record { first = slotWord slots k 0; inlets = slotWord slots k 1 - 1; outlets = slotWord slots k 2; capacity = slotWord slots k 3 }
     in
-    let same : Node there ≡ Node m = sym (entry-live slots k (live-says slots k m is)) ∙ is in
-    let e : there ≡ m = cc in
+    let e : there ≡ m = node-is (sym (entry-live slots k (live-says slots k m is)) ∙ is) in
     (ap (λ x. x .first) e, ap (λ x. x .inlets) e, ap (λ x. x .outlets) e, ap (λ x. x .capacity) e)
+
+-- What a number says to be a step is a live slot below the mark.
+pub nodeAt-live : (slots : List ℕ) (mark k : ℕ) (m : NodeMeta) → nodeAt slots mark k ≡ Node m → (k < mark) × (nodeEntry slots k ≡ Node m)
+unfolding nodeAt
+nodeAt-live slots mark k m is = go (decLt k mark)
+  where
+    go : Dec (k < mark) → (k < mark) × (nodeEntry slots k ≡ Node m)
+    go (yes l) = (l, rw (lt-ltb k mark l) at is)
+    go (no n) = absurd (free-node (rw (le-ltb k mark (omega arith)) at is))
 
 -- A slot's second word is not 0 where it is live.
 pub some-live : (slots : List ℕ) (k : ℕ) → some (slotWord slots k 1) ≡ liveOf (nodeEntry slots k)
@@ -127,10 +148,6 @@ pub record SaysAs (slots : List ℕ) (k : ℕ) (slots′ : List ℕ) (k′ : ℕ
 abbrev pub Alike : List ℕ → List ℕ → ℕ → Type 0
 Alike slots slots′ k = SaysAs slots k slots′ k
 
--- Nothing changes.
-pub alike : (slots : List ℕ) (k : ℕ) → Alike slots slots k
-alike slots k = record { step = refl; fourth = refl }
-
 -- A change and one more.
 pub alike-then : {a b c : List ℕ} {k : ℕ} → Alike a b k → Alike b c k → Alike a c k
 alike-then ab bc = record { step = bc .step ∙ ab .step; fourth = bc .fourth ∙ ab .fourth }
@@ -152,14 +169,9 @@ says-as slots k slots′ k′ heads a h = go (nodeEntry slots k) (nodeEntry slot
   where
     go : (e e′ : NodeEntry) → stepOf e′ ≡ stepOf e → SlotSays heads (slotWord slots k 3) e → SlotSays heads (slotWord slots′ k′ 3) e′
     go (Free previous next) (Free previous′ next′) same h = a .fourth ∙ h
-    go (Free previous next) (Node m′) same h = let z : _≡_ {A = ℕ} 0 1 = cc in absurd (omega arith)
-    go (Node m) (Free previous′ next′) same h = let z : _≡_ {A = ℕ} 0 1 = cc in absurd (omega arith)
-    go (Node m) (Node m′) same h = let e : m′ ≡ m = cc in rw e h
-
--- So a slot that is alike keeps rule 2.
-pub says-alike : (slots slots′ : List ℕ) (heads k : ℕ) → Alike slots slots′ k → SlotSays heads (slotWord slots k 3) (nodeEntry slots k)
-    → SlotSays heads (slotWord slots′ k 3) (nodeEntry slots′ k)
-says-alike slots slots′ heads k = says-as slots k slots′ k heads
+    go (Free previous next) (Node m′) same h = absurd (free-node (sym same))
+    go (Node m) (Free previous′ next′) same h = absurd (free-node same)
+    go (Node m) (Node m′) same h = rw (node-is same) h
 
 -- A slot at the mark, its words 0, is free.
 pub blank-entry : (slots : List ℕ) (k : ℕ) → ((j : ℕ) → j < width → slotWord slots k j ≡ 0) → nodeEntry slots k ≡ Free 0 0
@@ -176,9 +188,10 @@ unfolding liveSlots sum
 liveSlots-raise slots mark = rw (← some-live slots mark)
 
 -- A live slot below the mark holds its slab,
-pub slab-held : (slots : List ℕ) (mark k p : ℕ) → k < mark → slabOf (nodeEntry slots k) p ≤ heldAt slots mark p
+pub slab-held : (slots : List ℕ) (mark k : ℕ) (m : NodeMeta) (p : ℕ) → k < mark → nodeEntry slots k ≡ Node m
+    → inSlab (m .first) (m .capacity) p ≤ heldAt slots mark p
 unfolding heldAt
-slab-held slots mark k p l = sum-term (λ j. slabOf (nodeEntry slots j) p) mark k l
+slab-held slots mark k m p l is = rw is at (sum-term (λ j. slabOf (nodeEntry slots j) p) mark k l)
 
 -- and is counted,
 pub live-counted : (slots : List ℕ) (mark k : ℕ) → k < mark → liveOf (nodeEntry slots k) ≤ liveSlots slots mark
@@ -186,10 +199,11 @@ unfolding liveSlots
 live-counted slots mark k l = rw (← some-live slots k) (sum-term (λ j. some (slotWord slots j 1)) mark k l)
 
 -- and two of them hold two slabs.
-pub slabs-two : (slots : List ℕ) (mark k j p : ℕ) → k < mark → j < mark → (k ≡ j → ⊥)
-    → slabOf (nodeEntry slots k) p + slabOf (nodeEntry slots j) p ≤ heldAt slots mark p
+pub slabs-two : (slots : List ℕ) (mark k j : ℕ) (m n : NodeMeta) (p : ℕ) → k < mark → j < mark → (k ≡ j → ⊥)
+    → nodeEntry slots k ≡ Node m → nodeEntry slots j ≡ Node n
+    → inSlab (m .first) (m .capacity) p + inSlab (n .first) (n .capacity) p ≤ heldAt slots mark p
 unfolding heldAt
-slabs-two slots mark k j p lk lj d = sum-two (λ i. slabOf (nodeEntry slots i) p) mark k j lk lj d
+slabs-two slots mark k j m n p lk lj d is is′ = rw (is, is′) at (sum-two (λ i. slabOf (nodeEntry slots i) p) mark k j lk lj d)
 
 module _ (slots slots′ : List ℕ) (k : ℕ) (others : (j : ℕ) → (j ≡ k → ⊥) → Alike slots slots′ j) where
   -- One slot that changes changes one term: in how many slabs a port lies,
@@ -213,19 +227,6 @@ module _ (slots slots′ : List ℕ) (k : ℕ) (others : (j : ℕ) → (j ≡ k 
 pub freeOne-alike : (slots slots′ : List ℕ) (mark k : ℕ) → Alike slots slots′ k → freeOne slots′ mark k ≡ freeOne slots mark k
 unfolding freeOne
 freeOne-alike slots slots′ mark k a = rw (onNode-same (nodeEntry slots k) (nodeEntry slots′ k) (λ m. 0) 1 (a .step))
-
-module _ (slots slots′ : List ℕ) (all : (j : ℕ) → Alike slots slots′ j) where
-  -- Where every slot is alike the sums stay: in how many slabs a port lies,
-  pub heldAt-alike : (mark p : ℕ) → heldAt slots′ mark p ≡ heldAt slots mark p
-  unfolding heldAt
-  heldAt-alike mark p = sum-ext _ _ mark (λ j l. onNode-same (nodeEntry slots j) (nodeEntry slots′ j) _ 0 (all j .step))
-
-  -- and how many slots are live.
-  pub liveSlots-alike : (mark : ℕ) → liveSlots slots′ mark ≡ liveSlots slots mark
-  unfolding liveSlots
-  liveSlots-alike mark =
-      sum-ext _ _ mark
-      (λ j l. some-live slots′ j ∙ onNode-same (nodeEntry slots j) (nodeEntry slots′ j) _ 0 (all j .step) ∙ sym (some-live slots j))
 
 -- A word that is written is the only one that changes,
 pub word-other : (slots : List ℕ) (k j v i l : ℕ) → j < width → l < width → (i ≡ k → l ≡ j → ⊥)

@@ -19,7 +19,7 @@ use Rattle.slabs.proofs.EntryLaws.{setEntry-length, word-above, entry-same, fre
 use Rattle.edits.specs.FreeSlots.{slotAtHand, nextSlot, slotTaken, takenNodeMark, takenFreeSlot, slotFreed}
 use Rattle.edits.specs.Counts.{liveSlots}
 use Rattle.sound.specs.Sound.{LiveSlot, SlotSays, heldAt}
-use Rattle.sound.proofs.SlotLaws.{slabOf, liveOf, freeOne, step-node, entry-free, live-says, Alike, alike-then, says-alike, blank-entry, heldAt-raise, liveSlots-raise, heldAt-change, liveSlots-change, live-counted, freeOne-alike, setWord, previous-word, setWord-length, setWord-above, setWord-alike}
+use Rattle.sound.proofs.SlotLaws.{slabOf, liveOf, freeOne, step-node, entry-free, live-says, Alike, alike-then, blank-entry, heldAt-raise, liveSlots-raise, heldAt-change, liveSlots-change, live-counted, freeOne-alike, setWord, previous-word, setWord-length, setWord-above, setWord-alike, says-as}
 use Rattle.sound.proofs.FreeSlotLaws.{SlotChain, freeOne-above, freeOne-live, freeOne-raise, entry-word, entry-alike, head-free, head-below, next-below, next-free, slot-chain-kept, slot-chain-freed, slot-chain-taken}
 
 -- rules 1, 2 and 7 of a table of slots
@@ -68,7 +68,7 @@ module _ {slots : List ℕ} {heads mark nodes : ℕ} (t : SlotTable slots heads 
     where
       at : (j : ℕ) → Dec (j ≡ k) → j < mark → SlotSays heads (slotWord slots′ j 3) (nodeEntry slots′ j)
       at j (yes e) b = rw e here
-      at j (no n) b = says-alike slots slots′ heads j (others j n) (t .says j b)
+      at j (no n) b = says-as slots j slots′ j heads (others j n) (t .says j b)
 
 -- How a slot is taken: from the mark where the chain is empty, else from the chain. What holds in both cases holds.
 pub slot-cases : (P : List ℕ → ℕ → ℕ → ℕ → Type 0) (slots : List ℕ) (c : Counters)

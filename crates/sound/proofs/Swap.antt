@@ -23,14 +23,16 @@ use Rattle.edits.specs.declared.answer.Answer.the-variants.{Done, NoNode}
 use Rattle.calls.specs.Call.{swapCall}
 use Rattle.sound.specs.Sound.{Shaped, LiveSlot, heldAt, Owned, Sound}
 use Rattle.sound.proofs.RenameLaws.{same-port-then}
-use Rattle.sound.proofs.SlotLaws.{stepOf, freeOne, step-node, free-says, live-says, live-words, SaysAs, alike-then, freeOne-alike, previous-word, next-word}
+use Rattle.sound.proofs.SlotLaws.{stepOf, freeOne, step-node, free-says, live-says, live-words, SaysAs, alike-then, freeOne-alike, previous-word, next-word, node-is}
 use Rattle.sound.proofs.FreeSlotLaws.{SlotChain, freeOne-live, entry-word, entry-alike, slot-chain-kept}
 use Rattle.sound.proofs.SlotTable.{SlotTable, live-slot}
 use Rattle.sound.proofs.OwnerLaws.{Rewritten, owned-rewritten}
 use Rattle.sound.proofs.PortTable.{PortTable, table-held, table-renamed}
-use Rattle.sound.proofs.Halves.{Halves, halves-of, sound-by, step-ends, steps-apart, decided-sound, done-past}
+use Rattle.sound.proofs.Parts.{Parts, parts-of, sound-of, slot-table, chain-of, port-table, parts-by}
+use Rattle.sound.proofs.Kept.{decided-store, done-past}
 use Rattle.sound.proofs.Exchange.{exchanged, exchange-cases, heldAt-exchange, table-exchange}
 use Rattle.sound.proofs.FreeMove.{FreeMoved, moved-alike, moved-says, moved-head, moved-rest, moved-before, moved-after}
+use Rattle.sound.proofs.Fits.{slab-inside, slabs-apart}
 
 -- A swap that is done is of two slots below the mark.
 pub swap-done : (mark a b : ℕ) → isDone (swapAnswer mark a b) ≡ true → (a < mark) × (b < mark)
@@ -40,14 +42,14 @@ swap-done mark a b done =
     let there = done-past (leb mark b) (NoNode b) (Done 0 0 0) refl (here .1) in
     (leb-false mark a (here .0), leb-false mark b (there .0))
 
-module _ (s : Store) (h : Halves s) (few : s .counters .nodemark ≤ 65536) where
+module _ (s : Store) (P : Parts s) (few : s .counters .nodemark ≤ 65536) where
   -- A step and a free slot that change places: the step's owner words name its new number, and the head follows the free slot.
-  pub moved-halves : {slots′ : List ℕ} {from to : ℕ} {m : NodeMeta} → FreeMoved (s .slots) slots′ (s .counters .nodemark) from to m
+  pub moved-parts : {slots′ : List ℕ} {from to : ℕ} {m : NodeMeta} → FreeMoved (s .slots) slots′ (s .counters .nodemark) from to m
       → from < s .counters .nodemark → to < s .counters .nodemark → slotWord (s .slots) from 1 ≡ 0 → nodeEntry (s .slots) to ≡ Node m
-      → Halves
+      → Parts
       (storeOf slots′ (s .links) (ownersWritten (s .owners) from (m .first) (m .inlets) (m .outlets)) (s .heads)
       (pick (eqb (slotWord (s .slots) from 0) 0) (freeSlotMoved (s .counters) (to + 1)) (s .counters)))
-  moved-halves {slots′} {from} {to} {m} moved lf lt free live = go (ℕ-discrete (slotWord (s .slots) from 0) 0)
+  moved-parts {slots′} {from} {to} {m} moved lf lt free live = go (ℕ-discrete (slotWord (s .slots) from 0) 0)
     where
       mark : ℕ
       mark = s .counters .nodemark
@@ -59,55 +61,52 @@ module _ (s : Store) (h : Halves s) (few : s .counters .nodemark ≤ 65536) wher
       two e = live-says (s .slots) to m live (rw e at free)
 
       slot : LiveSlot (length (s .heads)) m
-      slot = live-slot (h .table) to m lt live
+      slot = live-slot (slot-table s P) to m lt live
 
       rewritten : Rewritten (s .owners) owners′ from m
-      rewritten = owned-rewritten (h .owned to lt m live) from (omega arith) (omega arith) (slot .fit) (step-ends s h to m lt live)
+      rewritten = owned-rewritten (P .owned to lt m live) from (omega arith) (omega arith) (slot .fit) (slab-inside s P to m lt live)
 
       says : (k : ℕ) → SaysAs (s .slots) (exchanged from to k) slots′ k
-      says = moved-says moved (h .table) (h .chain) lf lt free live
+      says = moved-says moved (slot-table s P) (chain-of s P) lf lt free live
 
       table : SlotTable slots′ (length (s .heads)) mark (s .counters .nodes)
-      table = table-exchange (s .slots) slots′ from to mark lf lt two says (h .table) (moved .length-kept) (moved .above)
+      table = table-exchange (s .slots) slots′ from to mark lf lt two says (slot-table s P) (moved .length-kept) (moved .above)
 
       owned : (k : ℕ) → k < mark → (n : NodeMeta) → nodeEntry slots′ k ≡ Node n → Owned owners′ k n
       owned k l n is = at (ℕ-discrete k from) (ℕ-discrete k to)
         where
           at : Dec (k ≡ from) → Dec (k ≡ to) → Owned owners′ k n
-          at (yes e) d =
-              let same : Node m ≡ Node n = sym (moved .here) ∙ rw e at is in
-              let m-is : m ≡ n = cc in
-              rw (e, ← m-is) (rewritten .owned)
-          at (no nf) (yes e) = absurd (live-says slots′ k n is (rw e (moved .second-word)))
+          at (yes e) d = rw (e, ← node-is (sym (moved .here) ∙ rw e at is)) (rewritten .owned)
+          at (no nf) (yes e) = absurd (live-says slots′ k n is (rw e (moved .there .1)))
           at (no nf) (no nt) =
               let was : nodeEntry (s .slots) k ≡ Node n =
-              step-node (nodeEntry (s .slots) k) (nodeEntry slots′ k) n (moved-alike moved (h .table) (h .chain) lf lt free live k nf nt .step) is
+              step-node (nodeEntry (s .slots) k) (nodeEntry slots′ k) n (moved-alike moved (slot-table s P) (chain-of s P) lf lt free live k nf nt .step) is
               in
-              rewritten .others k n (h .owned k l n was) (live-slot (h .table) k n l was .fit)
-              (steps-apart s h to k m n lt l (λ e. nt (sym e)) live was)
+              rewritten .others k n (P .owned k l n was) (live-slot (slot-table s P) k n l was .fit)
+              (slabs-apart s P to k m n lt l (λ e. nt (sym e)) live was)
 
       ports : PortTable (s .links) owners′ (s .heads) (s .counters .portmark) (heldAt slots′ mark) (s .counters .ports) (s .counters .links)
       ports =
-          table-held (table-renamed (h .ports) owners′ (rewritten .length-kept) (rewritten .renamed))
+          table-held (table-renamed (port-table s P) owners′ (rewritten .length-kept) (rewritten .renamed))
           (λ p. sym (heldAt-exchange (s .slots) slots′ from to mark lf lt two says p))
 
       go : Dec (slotWord (s .slots) from 0 ≡ 0)
-          → Halves (storeOf slots′ (s .links) owners′ (s .heads) (pick (eqb (slotWord (s .slots) from 0) 0) (freeSlotMoved (s .counters) (to + 1)) (s .counters)))
+          → Parts (storeOf slots′ (s .links) owners′ (s .heads) (pick (eqb (slotWord (s .slots) from 0) 0) (freeSlotMoved (s .counters) (to + 1)) (s .counters)))
       go (yes z) =
           rw (eq-eqb _ _ z)
-          (record { table = table; chain = moved-head moved (h .table) (h .chain) lf lt free live z; ports = ports; owned = owned })
+          (parts-by _ table (moved-head moved (slot-table s P) (chain-of s P) lf lt free live z) ports owned)
       go (no n) =
           rw (ne-eqb _ _ n)
-          (record { table = table; chain = moved-rest moved (h .table) (h .chain) lf lt free live n; ports = ports; owned = owned })
+          (parts-by _ table (moved-rest moved (slot-table s P) (chain-of s P) lf lt free live n) ports owned)
 
   -- Two steps that change places: the owner words of each name its new number.
-  pub exchanged-halves : (a b : ℕ) (m n : NodeMeta) → a < s .counters .nodemark → b < s .counters .nodemark → (a ≡ b → ⊥)
+  pub exchanged-parts : (a b : ℕ) (m n : NodeMeta) → a < s .counters .nodemark → b < s .counters .nodemark → (a ≡ b → ⊥)
       → nodeEntry (s .slots) a ≡ Node m → nodeEntry (s .slots) b ≡ Node n
-      → Halves
+      → Parts
       (storeOf (setEntry (setEntry (s .slots) a (Node n)) b (Node m)) (s .links)
       (ownersWritten (ownersWritten (s .owners) a (n .first) (n .inlets) (n .outlets)) b (m .first) (m .inlets) (m .outlets)) (s .heads) (s .counters))
-  exchanged-halves a b m n la lb d here there =
-      record { table = table; chain = chain; ports = ports; owned = owned }
+  exchanged-parts a b m n la lb d here there =
+      parts-by _ table chain ports owned
     where
       mark : ℕ
       mark = s .counters .nodemark
@@ -125,27 +124,27 @@ module _ (s : Store) (h : Halves s) (few : s .counters .nodemark ≤ 65536) wher
       owners₂ = ownersWritten owners₁ b (m .first) (m .inlets) (m .outlets)
 
       slot-a : LiveSlot (length (s .heads)) m
-      slot-a = live-slot (h .table) a m la here
+      slot-a = live-slot (slot-table s P) a m la here
 
       slot-b : LiveSlot (length (s .heads)) n
-      slot-b = live-slot (h .table) b n lb there
+      slot-b = live-slot (slot-table s P) b n lb there
 
       first : Rewritten (s .owners) owners₁ a n
-      first = owned-rewritten (h .owned b lb n there) a (omega arith) (omega arith) (slot-b .fit) (step-ends s h b n lb there)
+      first = owned-rewritten (P .owned b lb n there) a (omega arith) (omega arith) (slot-b .fit) (slab-inside s P b n lb there)
 
       second : Rewritten owners₁ owners₂ b m
       second =
-          owned-rewritten (first .others a m (h .owned a la m here) (slot-a .fit) (steps-apart s h b a n m lb la (λ e. d (sym e)) there here)) b
-          (omega arith) (omega arith) (slot-a .fit) (rw (first .length-kept) (step-ends s h a m la here))
+          owned-rewritten (first .others a m (P .owned a la m here) (slot-a .fit) (slabs-apart s P b a n m lb la (λ e. d (sym e)) there here)) b
+          (omega arith) (omega arith) (slot-a .fit) (rw (first .length-kept) (slab-inside s P a m la here))
 
       room : length slots₁ ≡ length (s .slots)
       room = setEntry-length (s .slots) a (Node n)
 
       at-a : nodeEntry slots₂ a ≡ Node n
-      at-a = entry-other slots₁ b a (Node m) d ∙ entry-same (s .slots) a (Node n) (omega (arith, h .table .room))
+      at-a = entry-other slots₁ b a (Node m) d ∙ entry-same (s .slots) a (Node n) (omega (arith, P .node-room))
 
       at-b : nodeEntry slots₂ b ≡ Node m
-      at-b = entry-same slots₁ b (Node m) (omega (arith, h .table .room, room))
+      at-b = entry-same slots₁ b (Node m) (omega (arith, P .node-room, room))
 
       others : (k : ℕ) → (k ≡ a → ⊥) → (k ≡ b → ⊥) → SaysAs (s .slots) k slots₂ k
       others k na nb = alike-then (entry-alike (s .slots) a (Node n) k na) (entry-alike slots₁ b (Node m) k nb)
@@ -159,11 +158,11 @@ module _ (s : Store) (h : Halves s) (few : s .counters .nodemark ≤ 65536) wher
 
       table : SlotTable slots₂ (length (s .heads)) mark (s .counters .nodes)
       table =
-          table-exchange (s .slots) slots₂ a b mark la lb d says (h .table) (setEntry-length slots₁ b (Node m) ∙ room)
+          table-exchange (s .slots) slots₂ a b mark la lb d says (slot-table s P) (setEntry-length slots₁ b (Node m) ∙ room)
           (λ i l. word-above slots₁ b (Node m) i (omega arith) ∙ word-above (s .slots) a (Node n) i (omega arith))
 
       chain : SlotChain slots₂ (s .counters .freeslot) mark
-      chain = slot-chain-kept (h .chain) slots₂ mark (λ k. free k (ℕ-discrete k a) (ℕ-discrete k b)) (λ k l z. (word k 0 (omega arith) z, word k 2 (omega arith) z))
+      chain = slot-chain-kept (chain-of s P) slots₂ mark (λ k. free k (ℕ-discrete k a) (ℕ-discrete k b)) (λ k l z. (word k 0 (omega arith) z, word k 2 (omega arith) z))
         where
           free : (k : ℕ) → Dec (k ≡ a) → Dec (k ≡ b) → freeOne slots₂ mark k ≡ freeOne (s .slots) mark k
           free k (yes e) dec = rw e (freeOne-live slots₂ mark a (live-says slots₂ a n at-a) ∙ sym (freeOne-live (s .slots) mark a (live-says (s .slots) a m here)))
@@ -179,7 +178,7 @@ module _ (s : Store) (h : Halves s) (few : s .counters .nodemark ≤ 65536) wher
       ports : PortTable (s .links) owners₂ (s .heads) (s .counters .portmark) (heldAt slots₂ mark) (s .counters .ports) (s .counters .links)
       ports =
           table-held
-          (table-renamed (h .ports) owners₂ (second .length-kept ∙ first .length-kept) (λ p. same-port-then (first .renamed p) (second .renamed p)))
+          (table-renamed (port-table s P) owners₂ (second .length-kept ∙ first .length-kept) (λ p. same-port-then (first .renamed p) (second .renamed p)))
           (λ p. sym (heldAt-exchange (s .slots) slots₂ a b mark la lb d says p))
 
       owned : (k : ℕ) → k < mark → (l : NodeMeta) → nodeEntry slots₂ k ≡ Node l → Owned owners₂ k l
@@ -187,23 +186,18 @@ module _ (s : Store) (h : Halves s) (few : s .counters .nodemark ≤ 65536) wher
         where
           at : Dec (k ≡ a) → Dec (k ≡ b) → Owned owners₂ k l
           at (yes e) dec =
-              let same : Node n ≡ Node l = sym at-a ∙ rw e at is in
-              let n-is : n ≡ l = cc in
-              rw (e, ← n-is) (second .others a n (first .owned) (slot-b .fit) (steps-apart s h a b m n la lb d here there))
-          at (no na) (yes e) =
-              let same : Node m ≡ Node l = sym at-b ∙ rw e at is in
-              let m-is : m ≡ l = cc in
-              rw (e, ← m-is) (second .owned)
+              rw (e, ← node-is (sym at-a ∙ rw e at is)) (second .others a n (first .owned) (slot-b .fit) (slabs-apart s P a b m n la lb d here there))
+          at (no na) (yes e) = rw (e, ← node-is (sym at-b ∙ rw e at is)) (second .owned)
           at (no na) (no nb) =
               let was : nodeEntry (s .slots) k ≡ Node l = step-node (nodeEntry (s .slots) k) (nodeEntry slots₂ k) l (others k na nb .step) is in
-              let fit : l .inlets + l .outlets ≤ l .capacity = live-slot (h .table) k l low was .fit in
-              second .others k l (first .others k l (h .owned k low l was) fit (steps-apart s h b k n l lb low (λ e. nb (sym e)) there was)) fit
-              (steps-apart s h a k m l la low (λ e. na (sym e)) here was)
+              let fit : l .inlets + l .outlets ≤ l .capacity = live-slot (slot-table s P) k l low was .fit in
+              second .others k l (first .others k l (P .owned k low l was) fit (slabs-apart s P b k n l lb low (λ e. nb (sym e)) there was)) fit
+              (slabs-apart s P a k m l la low (λ e. na (sym e)) here was)
 
-  -- The store with two slots swapped has both halves.
-  pub swapped-halves : (a b : ℕ) → a < s .counters .nodemark → b < s .counters .nodemark → Halves (swapped s a b)
+  -- The store with two slots swapped has its parts.
+  pub swapped-parts : (a b : ℕ) → a < s .counters .nodemark → b < s .counters .nodemark → Parts (swapped s a b)
   unfolding swapped swappedSlots swappedOwners swappedCounters arrivedSlots arrivedOwners arrivedCounters
-  swapped-halves a b la lb = go (nodeEntry (s .slots) a) (nodeEntry (s .slots) b) refl refl (ℕ-discrete a b)
+  swapped-parts a b la lb = go (nodeEntry (s .slots) a) (nodeEntry (s .slots) b) refl refl (ℕ-discrete a b)
     where
       by : NodeEntry → NodeEntry → Store
       by here there =
@@ -215,25 +209,25 @@ module _ (s : Store) (h : Halves s) (few : s .counters .nodemark ≤ 65536) wher
             counters = pick (stays a b here there) (s .counters) (arrivedCounters (arrivedCounters (s .counters) a there) b here);
           }
 
-      go : (here there : NodeEntry) → nodeEntry (s .slots) a ≡ here → nodeEntry (s .slots) b ≡ there → Dec (a ≡ b) → Halves (by here there)
-      go here there is-a is-b (yes e) = rw (eq-eqb a b e) h
-      go (Free previous next) (Free previous′ next′) is-a is-b (no d) = rw (ne-eqb a b d) h
+      go : (here there : NodeEntry) → nodeEntry (s .slots) a ≡ here → nodeEntry (s .slots) b ≡ there → Dec (a ≡ b) → Parts (by here there)
+      go here there is-a is-b (yes e) = rw (eq-eqb a b e) P
+      go (Free previous next) (Free previous′ next′) is-a is-b (no d) = rw (ne-eqb a b d) P
       go (Free previous next) (Node m) is-a is-b (no d) =
           let (z, w₀, w₂) = free-says (s .slots) a previous next is-a in
           rw (ne-eqb a b d, previous-word, next-word, ← w₀, ← w₂)
-          (moved-halves (moved-after (h .table) (h .chain) la lb z is-b) la lb z is-b)
+          (moved-parts (moved-after (slot-table s P) (chain-of s P) la lb z is-b) la lb z is-b)
       go (Node m) (Free previous next) is-a is-b (no d) =
           let (z, w₀, w₂) = free-says (s .slots) b previous next is-b in
           rw (ne-eqb a b d, previous-word, next-word, ← w₀, ← w₂)
-          (moved-halves (moved-before (h .table) (h .chain) lb la z is-a) lb la z is-a)
-      go (Node m) (Node n) is-a is-b (no d) = rw (ne-eqb a b d) (exchanged-halves a b m n la lb d is-a is-b)
+          (moved-parts (moved-before (slot-table s P) (chain-of s P) lb la z is-a) lb la z is-a)
+      go (Node m) (Node n) is-a is-b (no d) = rw (ne-eqb a b d) (exchanged-parts a b m n la lb d is-a is-b)
 
 -- So a swap, done or refused, keeps a store sound.
 pub swap-sound : (s : Store) → Shaped s → Sound s → (a b : ℕ) → Sound ((swapCall s a b) .store)
 unfolding swapCall
 swap-sound s shaped sound a b =
-    decided-sound _ s (swapped s a b) [] sound
+    decided-store _ s (swapped s a b) [] Sound sound
     (λ done.
-    let h = halves-of s shaped sound in
+    let P = parts-of s shaped sound in
     let (la, lb) = swap-done (s .counters .nodemark) a b done in
-    sound-by (swapped s a b) (swapped-halves s h (omega (arith, h .table .room, shaped .whole, shaped .few-slots)) a b la lb))
+    sound-of (swapped s a b) (swapped-parts s P (omega (arith, P .node-room, shaped .whole, shaped .few-slots)) a b la lb))

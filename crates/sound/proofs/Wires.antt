@@ -25,10 +25,10 @@ use Rattle.edits.specs.Answer.{isDone}
 use Rattle.edits.specs.Linking.{pairAnswer, linkAnswer, joined, unlinkAnswer}
 use Rattle.edits.specs.declared.answer.Answer.the-variants.{Done, NoPort, SameDirection, AlreadyLinked, NotLinked}
 use Rattle.calls.specs.Call.{rewired, linkCall, unlinkCall}
-use Rattle.sound.specs.Sound.{Shaped, Sound, freeSlots, heldIn}
-use Rattle.sound.proofs.Parts.{Parts, parts-of, sound-of, unheld}
+use Rattle.sound.specs.Sound.{Shaped, Sound, heldIn}
+use Rattle.sound.proofs.Parts.{Parts, parts-of, sound-of, unheld, slot-table, chain-of, parts-by}
 use Rattle.sound.proofs.Fits.{live-held}
-use Rattle.sound.proofs.Kept.{decided-store}
+use Rattle.sound.proofs.Kept.{decided-store, false-true}
 
 -- the counters with another count of wires
 abbrev pub relinked : Counters → ℕ → Counters
@@ -40,27 +40,17 @@ pub rewired-sound : (s : Store) → Shaped s → Sound s → (links : List ℕ) 
     → Wiring (s .owners) links (heldIn s)
     → wires ≡ pairs (s .owners) links (s .counters .portmark)
     → Sound (rewired s links (relinked (s .counters) wires))
-unfolding freeSlots
 rewired-sound s shaped sound links wires long still wiring count =
     let P : Parts s = parts-of s shaped sound in
-    sound-of
-    (rewired s links (relinked (s .counters) wires))
+    sound-of _
+    (parts-by (rewired s links (relinked (s .counters) wires)) (slot-table s P) (chain-of s P)
     (record {
-      node-room = P .node-room;
-      slots-blank = P .slots-blank;
-      slots = P .slots;
-      free-chain =
-          record {
-            chain = P .free-chain .chain;
-            forward = P .free-chain .forward;
-            backward = P .free-chain .backward;
-            each-once = P .free-chain .each-once;
-          };
       slabs = slabs-kept (P .slabs) links (s .owners) long refl still (λ p h. refl);
-      owned = P .owned;
       wiring = wiring;
-      counted = record { nodes = P .counted .nodes; ports = P .counted .ports; links = count };
+      ports-counted = P .counted .ports;
+      wires-counted = count;
     })
+    (P .owned))
 
 -- What a number says as a port below the mark, it is.
 pub port-live : (owners : List ℕ) (mark p node direction : ℕ) → portAt owners mark p ≡ Port node direction
@@ -74,10 +64,6 @@ port-live owners mark p node direction e = go (ltb p mark) refl (eqb (getD owner
     go true l false w e = (ltb-true p mark l, eqb-false (getD owners p 0) 0 w, cc, cc)
     go true l true w e = let z : _≡_ {A = ℕ} 0 1 = cc in absurd (omega arith)
     go false l none w e = let z : _≡_ {A = ℕ} 0 1 = cc in absurd (omega arith)
-
--- The two tests' values differ.
-pub false-true : false ≡ true → ⊥
-false-true e = let z : _≡_ {A = ℕ} 0 1 = cc in omega arith
 
 -- two live ports without a wire that face opposite ways
 pub record CanJoin (owners links : List ℕ) (mark a b : ℕ) : Type 0 where
@@ -173,10 +159,15 @@ module _ (owners links : List ℕ) (mark a b : ℕ) (inside : mark ≤ length li
   unfolding joined
   joined-pairs =
       let loose : getD (set links a (suc b)) b 0 ≡ 0 = getD-set-other links a b (suc b) 0 (λ e. join-apart (sym e)) ∙ can .b-loose in
-      rw
-      (add-one b, add-one a)
-      (omega
-      (arith, can .across, direction-le (getD owners a 0), direction-le (getD owners b 0), pairs-set owners links a b mark (can .a-below) inside (can .a-live) (can .a-loose), pairs-set owners (set links a (suc b)) b a mark (can .b-below) (omega (arith, length-set links a (suc b))) (can .b-live) loose))
+      rw (add-one b, add-one a)
+      (omega (
+        arith,
+        can .across,
+        direction-le (getD owners a 0),
+        direction-le (getD owners b 0),
+        pairs-set owners links a b mark (can .a-below) inside (can .a-live) (can .a-loose),
+        pairs-set owners (set links a (suc b)) b a mark (can .b-below) (omega (arith, length-set links a (suc b))) (can .b-live) loose,
+      ))
 
 -- A join leaves the length of the table.
 pub joined-length : (links : List ℕ) (a b : ℕ) → length (joined links a b) ≡ length links

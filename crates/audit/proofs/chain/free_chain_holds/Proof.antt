@@ -2,7 +2,7 @@
 use mathlib.Core.Path.{sym, _∙_}
 use borrow.Author.Needs.{needs}
 use Rattle.audit.proofs.DecideLaws.{decided-not, decides-from}
-use Rattle.audit.proofs.CountLaws.{liveSlots-le}
+use Rattle.edits.proofs.CountLaws.{liveSlots-le}
 use Rattle.audit.proofs.chain.free_chain_holds.Statement.{statement}
 use Rattle.audit.proofs.chain.free_chain_holds.Tie as tie
 

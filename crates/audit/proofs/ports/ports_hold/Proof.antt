@@ -15,7 +15,8 @@ use lib.ListN.{getD}
 use Rattle.edits.specs.Counts.{some, livePorts}
 use Rattle.audit.specs.Parts.{MateHolds}
 use Rattle.audit.proofs.DecideLaws.{decided-not, decides-from, decides-eq, passed, failed}
-use Rattle.audit.proofs.CountLaws.{some-none, some-one, livePorts-suc, livePorts-le, outlet-free, outlet-loose, outlet-wired, pairs-suc, pairs-le}
+use Rattle.audit.proofs.CountLaws.{some-none, some-one, livePorts-suc, outlet-free, outlet-loose, outlet-wired, pairs-suc, pairs-le}
+use Rattle.edits.proofs.CountLaws.{livePorts-le}
 use Rattle.audit.proofs.PortLaws.{word-free, word-port}
 use Rattle.audit.proofs.ports.ports_hold.Statement.{statement}
 use Rattle.audit.proofs.ports.ports_hold.Tie as tie

@@ -8,7 +8,8 @@ use native.Mathlib.Numerals.{add-one}
 use Rattle.slabs.specs.Sums.{sum}
 use Rattle.slabs.specs.NodeEntry.{slotWord}
 use Rattle.edits.specs.Counts.{liveSlots}
-use Rattle.audit.proofs.CountLaws.{some-none, some-one, liveSlots-suc, liveSlots-le}
+use Rattle.audit.proofs.CountLaws.{some-none, some-one, liveSlots-suc}
+use Rattle.edits.proofs.CountLaws.{liveSlots-le}
 use Rattle.audit.proofs.slots.live_slots.Statement.{statement}
 use Rattle.audit.proofs.slots.live_slots.Tie as tie
 

@@ -7,7 +7,8 @@ use mathlib.Core.Path.{_∙_, ap}
 use Rattle.slabs.specs.NodeEntry.{width}
 use Rattle.slabs.specs.Slab.{filled}
 use Rattle.renumber.specs.Compact.{packedSlots, compactedSlots}
-use Rattle.renumber.proofs.PackLaws.{liveSlots-le, nodes-slots}
+use Rattle.renumber.proofs.PackLaws.{nodes-slots}
+use Rattle.edits.proofs.CountLaws.{liveSlots-le}
 use Rattle.renumber.proofs.compact.compact_nodes.Statement.{statement}
 use Rattle.renumber.proofs.compact.compact_nodes.Tie as tie
 

@@ -9,7 +9,8 @@ use Rattle.slabs.specs.NodeEntry.{nodeEntry}
 use Rattle.slabs.specs.Slab.{filled}
 use Rattle.renumber.specs.Room.{RecordRoom}
 use Rattle.renumber.specs.Compact.{packedLinks, packedOwners, slabsDropped, emptiedAbove, portsCompacted}
-use Rattle.renumber.proofs.PackLaws.{livePorts-le, fits-wider, followedSlots-fit, ports-slots, ports-links, ports-owners}
+use Rattle.renumber.proofs.PackLaws.{fits-wider, followedSlots-fit, ports-slots, ports-links, ports-owners}
+use Rattle.edits.proofs.CountLaws.{livePorts-le}
 use Rattle.renumber.proofs.compact.compact_ports.Statement.{statement}
 use Rattle.renumber.proofs.compact.compact_ports.Tie as tie
 

@@ -15,7 +15,8 @@ use Rattle.renumber.specs.Records.{rec, setRecord, logged}
 use Rattle.renumber.specs.Compact.{packedSlots, renamedOwners, nodeRecords}
 use Rattle.renumber.specs.Packing.{PackedNodes}
 use Rattle.renumber.specs.declared.log.LogPlace.{LogPlace}
-use Rattle.renumber.proofs.PackLaws.{nodes-slots, nodes-owners, nodes-log, nodes-entry, liveSlots-le, slot-number, nodes-free, nodes-live}
+use Rattle.renumber.proofs.PackLaws.{nodes-slots, nodes-owners, nodes-log, nodes-entry, slot-number, nodes-free, nodes-live}
+use Rattle.edits.proofs.CountLaws.{liveSlots-le}
 use Rattle.renumber.proofs.compact.pack_nodes.Statement.{statement}
 use Rattle.renumber.proofs.compact.pack_nodes.Tie as tie
 

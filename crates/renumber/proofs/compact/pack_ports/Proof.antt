@@ -16,7 +16,8 @@ use Rattle.renumber.specs.Records.{rec, setRecord, logged}
 use Rattle.renumber.specs.Compact.{packedLinks, packedOwners, followed, followedSlots, portRecords}
 use Rattle.renumber.specs.Packing.{PackedPorts}
 use Rattle.renumber.specs.declared.log.LogPlace.{LogPlace}
-use Rattle.renumber.proofs.PackLaws.{port-named, port-none, livePorts-le, port-number, packedLinks-inside, followedSlots-fit, ports-slots, ports-links, ports-owners, ports-log, ports-word, ports-free, ports-live}
+use Rattle.renumber.proofs.PackLaws.{port-named, port-none, port-number, packedLinks-inside, followedSlots-fit, ports-slots, ports-links, ports-owners, ports-log, ports-word, ports-free, ports-live}
+use Rattle.edits.proofs.CountLaws.{livePorts-le}
 use Rattle.renumber.proofs.compact.pack_ports.Statement.{statement}
 use Rattle.renumber.proofs.compact.pack_ports.Tie as tie
 
