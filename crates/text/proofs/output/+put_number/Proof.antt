@@ -2,7 +2,7 @@
 use native.Mathlib.Omega.{arith}
 use Rattle.text.proofs.DecimalLaws.{digits-some}
 use Rattle.text.proofs.OutputLaws.{put-digit, put-last, last-length}
-use Prim.Native.Nat.{ℕ}
+use Prim.Native.Nat.{ℕ, _<_}
 use borrow.Fn.Kinds.{In}
 use borrow.Fn.PlainCycle.{Measures, is, falls, and}
 use Rattle.text.proofs.output.put_number.Reads as put-number
