@@ -1,4 +1,6 @@
 // The audit: whether the lent words are a sound store. It goes over each table a fixed number of times, and only the scratch is written.
+#![tactic(auto)]
+
 ghost use Rattle.std.specs.Prelude.{◌≤◌, length};
 ghost use Rattle.edits.specs.Store.{store_of};
 ghost use Rattle.sound.specs.Sound.{Shaped, Sound};

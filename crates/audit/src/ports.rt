@@ -124,7 +124,7 @@ fn held_slabs(
 }
 
 // Whether what was looked at holds, and how many ports are claimed.
-#[derive(Drop)]
+#[derive(Clone, Copy)]
 pub struct Claimed {
     pub holds: bool,
     pub ports: u32,

@@ -1,4 +1,6 @@
 // The dispatch: a call's four words to its answer. Every call is lent the whole memory, and leaves what its definition says.
+#![tactic(auto)]
+
 ghost use Rattle.std.specs.Prelude.{◌≡◌};
 ghost use Rattle.edits.specs.Store.{store_of};
 ghost use Rattle.edits.specs.Fit.{Fit};
@@ -15,7 +17,7 @@ use slabs::counters::Counters;
 use slabs::node_entry::NodeEntry;
 
 // A call: its number and three words.
-#[derive(Drop)]
+#[derive(Clone, Copy)]
 pub struct Call {
     pub n: u32,
     pub a: u32,
@@ -24,7 +26,7 @@ pub struct Call {
 }
 
 // What a call leaves: its answer, the counters, and where the next record goes.
-#[derive(Drop)]
+#[derive(Clone, Copy)]
 pub struct Outcome {
     pub answer: Answer,
     pub counters: Counters,

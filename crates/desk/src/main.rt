@@ -1,4 +1,6 @@
 // The desk: lines of calls on standard input, lines of answers and records, or the first bad line, on standard output.
+#![tactic(auto)]
+
 
 // Reads at most 11,265 bytes. A good line has at most 44: four numbers of ten digits, three tabs and the newline. So 256 good lines
 // have at most 11,264, and in a longer text some line among the first 257 is bad: what is read already says which.

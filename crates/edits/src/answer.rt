@@ -3,7 +3,7 @@ ghost use Rattle.std.specs.Prelude.{◌≡◌};
 ghost use Rattle.edits.specs.Answer.{says, answer_words, is_done};
 
 // Each refusal has what its values need.
-#[derive(Drop)]
+#[derive(Clone, Copy)]
 pub enum Answer {
     Done(u32, u32, u32),
     NoNode(u32),
@@ -21,7 +21,7 @@ pub enum Answer {
 }
 
 // The words of an answer: its number and three values.
-#[derive(Drop)]
+#[derive(Clone, Copy)]
 pub struct AnswerWords {
     pub code: u32,
     pub first: u32,

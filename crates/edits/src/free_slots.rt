@@ -7,7 +7,7 @@ use slabs::counters::Counters;
 use slabs::node_entry::{NodeEntry, WIDTH};
 
 // A slot that was taken, with the counters after it.
-#[derive(Drop)]
+#[derive(Clone, Copy)]
 pub struct SlotTaken {
     pub node: u32,
     pub counters: Counters,

@@ -15,7 +15,7 @@ pub const PORT_MOVED: u32 = 3;
 pub const NODE_MOVED: u32 = 4;
 
 // Where the next record goes, counted in records, and the place of the call in the run.
-#[derive(Drop)]
+#[derive(Clone, Copy)]
 pub struct LogPlace {
     pub at: usize,
     pub place: u32,

@@ -54,7 +54,7 @@ pub fn move_port(links: &mut [u32], old: u32, new: u32)
 }
 
 // A run of ports that move, and from which end.
-#[derive(Drop)]
+#[derive(Clone, Copy)]
 pub struct Run {
     pub from: u32,
     pub to: u32,

@@ -16,7 +16,7 @@ use slabs::counters::{Counters, less};
 use slabs::node_entry::{NodeEntry, NodeMeta};
 
 // A live step and the counts that it is to have.
-#[derive(Drop)]
+#[derive(Clone, Copy)]
 pub struct Change {
     pub node: u32,
     pub meta: NodeMeta,

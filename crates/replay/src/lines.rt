@@ -3,7 +3,7 @@ ghost use Rattle.std.specs.Prelude.{◌≤◌, ◌<◌, length};
 
 // A line that was read, and the place after it. Numbers that its letter does not have are 0. A line without the
 // numbers of its letter has the letter 0: no line is meant by that, so it is skipped.
-#[derive(Drop)]
+#[derive(Clone, Copy)]
 pub struct Line {
     pub letter: u8,
     pub a: u32,

@@ -1,4 +1,6 @@
 // Replays recorded sessions: S, N, C and W lines on standard input, the transcript on standard output.
+#![tactic(auto)]
+
 mod lines;
 mod printing;
 mod runs;

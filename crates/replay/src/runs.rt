@@ -6,7 +6,7 @@ use crate::{lines, printing};
 
 // What is done next: a run of the calls that have so many words, or, where they have none, what a line asks for. The
 // next step stands at `next`.
-#[derive(Drop)]
+#[derive(Clone, Copy)]
 pub struct Step {
     pub line: Line,
     pub words: usize,

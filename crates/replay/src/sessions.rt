@@ -8,7 +8,7 @@ use slabs::counters::Counters;
 
 // The room that a session asks for, its next run's log included, and the counters of its store. Slots and records are
 // counted in words. There may be less room than that: a table is lent as far as it goes.
-#[derive(Drop)]
+#[derive(Clone, Copy)]
 pub struct Session {
     pub slot_words: usize,
     pub ports: usize,

@@ -1,4 +1,6 @@
 // The run: lengths first, then the audit, then each call in order. It asks nothing of its caller.
+#![tactic(auto)]
+
 ghost use Rattle.std.specs.Prelude.{◌≡◌, ◌+◌, ◌*◌, ◌≤◌, length};
 ghost use Rattle.edits.specs.Store.{store_of};
 ghost use Rattle.run.specs.Run.{call_width, call_at, set_answer, lent_of, Ran, CanAnswer, Answered};
@@ -11,7 +13,7 @@ use renumber::log::LogPlace;
 use slabs::counters::Counters;
 
 // What a run says: 20, 21 or 0; how many records it wrote; and the counters after it.
-#[derive(Drop)]
+#[derive(Clone, Copy)]
 pub struct RunAnswer {
     pub code: u32,
     pub records: u32,

@@ -2,7 +2,7 @@
 ghost use Rattle.std.specs.Prelude.{◌≡◌, ◌+◌, ◌-◌, ◌<◌};
 ghost use Rattle.slabs.specs.Counters.{none_counted, link_counted, links_uncounted, slab_freed, mark_raised, node_mark_raised, free_slot_moved, node_counted, node_uncounted, ports_recounted, nodes_packed, ports_packed};
 
-#[derive(Drop)]
+#[derive(Clone, Copy)]
 pub struct Counters {
     pub nodemark: u32,
     pub portmark: u32,

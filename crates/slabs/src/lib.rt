@@ -1,4 +1,6 @@
 // The lower crate of the wiring store: its words, its counters and its slabs of ports.
+#![tactic(auto)]
+
 pub mod counters;
 pub mod links;
 pub mod node_entry;

@@ -3,7 +3,7 @@ ghost use Rattle.std.specs.Prelude.{◌≡◌, ◌+◌, ◌≤◌, ◌<◌, leng
 ghost use Rattle.slabs.specs.Links.{link_at, Inside, cut_at, wired_at, cut_run, wires_in};
 
 // What a link word says of its port.
-#[derive(Drop)]
+#[derive(Clone, Copy)]
 pub enum Link {
     Loose,
     To(u32),

@@ -6,7 +6,7 @@ ghost use Rattle.slabs.specs.NodeEntry.{width, node_entry, set_slot, set_entry, 
 pub const WIDTH: usize = 4;
 
 // A live slot: its slab starts at `first` and holds `capacity` ports.
-#[derive(Drop)]
+#[derive(Clone, Copy)]
 pub struct NodeMeta {
     pub first: u32,
     pub inlets: u32,
@@ -15,14 +15,14 @@ pub struct NodeMeta {
 }
 
 // What a slot says. The neighbours of a free slot are kept plus 1, and 0 is none.
-#[derive(Drop)]
+#[derive(Clone, Copy)]
 pub enum NodeEntry {
     Free { previous: u32, next: u32 },
     Node(NodeMeta),
 }
 
 // Ports from `start` up to, and not including, `end`.
-#[derive(Drop)]
+#[derive(Clone, Copy)]
 pub struct PortRange {
     pub start: usize,
     pub end: usize,

@@ -3,7 +3,7 @@ ghost use Rattle.std.specs.Prelude.{◌≡◌, ◌≤◌, ◌<◌};
 ghost use Rattle.slabs.specs.PortEntry.{owner_word, port_entry};
 
 // What an owner word says of its port. A direction is 0 for an inlet and 1 for an outlet.
-#[derive(Drop)]
+#[derive(Clone, Copy)]
 pub enum PortEntry {
     Free,
     Port { node: u32, direction: u32 },

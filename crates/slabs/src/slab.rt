@@ -18,7 +18,7 @@ pub fn at_hand(heads: &[u32], mark: u32, room: usize, size: u32) -> bool
 }
 
 // A slab that was taken, with the counters after it.
-#[derive(Drop)]
+#[derive(Clone, Copy)]
 pub struct Taken {
     pub first: u32,
     pub counters: Counters,

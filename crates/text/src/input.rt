@@ -12,14 +12,14 @@ const TAB: u8 = 9;
 const NEWLINE: u8 = 10;
 
 // A line of a text: a call and the place after the line, or none.
-#[derive(Drop)]
+#[derive(Clone, Copy)]
 pub enum Line {
     Good(Call, usize),
     Bad,
 }
 
 // What a text says: so many calls, or its first bad line, counted from 1.
-#[derive(Drop)]
+#[derive(Clone, Copy)]
 pub enum Input {
     Calls(u32),
     BadLine(u32),

@@ -1,4 +1,6 @@
 // The desk's text: lines of calls in, lines of answers and records out.
+#![tactic(auto)]
+
 ghost use Rattle.std.specs.Prelude.{◌≡◌, ◌*◌, ◌≤◌, length};
 ghost use Rattle.run.specs.Run.{midway};
 ghost use Rattle.text.specs.Lines.{desk_lent, midway_lines, Printed};
@@ -12,7 +14,7 @@ use input::Input;
 use slabs::counters::Counters;
 
 // What the desk prints: the first `len` bytes.
-#[derive(Drop)]
+#[derive(Clone, Copy)]
 pub struct Page {
     pub bytes: [u8; 32768],
     pub len: usize,

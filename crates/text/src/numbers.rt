@@ -4,7 +4,7 @@ ghost use Rattle.text.specs.Decimal.{decimal};
 ghost use Rattle.text.specs.Parts.{DigitsAt, Numeral, NumberRead};
 
 // What stands at a place of a text: a number and the place after it, or none.
-#[derive(Drop)]
+#[derive(Clone, Copy)]
 pub enum Parsed {
     Number(u32, usize),
     Bad,
