@@ -1,0 +1,6 @@
+-- Two fields are what `less` gives, and the others stay.
+use borrow.Author.Rules.{rules}
+use Rattle.slabs.proofs.counters.Counters.slab_freed.Goals as goal
+
+pub returns : goal.returns
+returns c = rw (c.less-2.ensures, c.less.ensures)

@@ -1,0 +1,23 @@
+-- After i turns the table and the count are those of i ports, and each turn is the definition's next step.
+use Prim.Native.Nat.{ℕ, ◌+◌, ◌-◌, ◌≤◌}
+use mathlib.Core.List.{List}
+use mathlib.Core.Path.{◌≡◌, refl, ◌∙◌, ap}
+use native.Mathlib.Omega.{arith}
+use native.Mathlib.Numerals.{add-one}
+use lib.ListN.{length}
+use borrow.Author.Rules.{rules}
+use Rattle.slabs.specs.Links.{cut_at, cut_run, wires_in}
+use Rattle.slabs.proofs.Shapes.{cut_run-length, cut_run_inside, wires_in_le, wired_at_le}
+use Rattle.slabs.proofs.links.cut_run.Given as goal
+
+-- after i ports
+pub record Cut (links₀ : List ℕ) (first n : ℕ) (links : List ℕ) (wires i : ℕ) : Type 0 where
+  pub within : i ≤ n
+  pub words : links ≡ cut_run links₀ first i
+  pub counted : wires ≡ wires_in links₀ first i
+
+abbrev pub invariant-loop-i : goal.invariant-loop-i
+invariant-loop-i l = Cut l.initial.links l.first l.n l.links l.wires l.i
+
+abbrev pub decreases-loop-i : goal.decreases-loop-i
+decreases-loop-i l = l.n - l.i

@@ -1,0 +1,16 @@
+-- After i turns i places hold the word, and each turn is the definition's next step.
+use Prim.Native.Nat.{◌-◌, ◌≤◌}
+use mathlib.Core.Path.{◌≡◌, refl, ◌∙◌, ap}
+use native.Mathlib.Omega.{arith}
+use native.Mathlib.Numerals.{add-one}
+use lib.ListN.{length}
+use borrow.Author.Rules.{rules}
+use Rattle.slabs.specs.Slab.{filled}
+use Rattle.slabs.proofs.Shapes.{filled-length}
+use Rattle.slabs.proofs.slab.fill.Given as goal
+
+abbrev pub invariant-loop-i : goal.invariant-loop-i
+invariant-loop-i l = (l.i ≤ l.n) × (l.table ≡ filled l.initial.table l.first l.i l.word)
+
+abbrev pub decreases-loop-i : goal.decreases-loop-i
+decreases-loop-i l = l.n - l.i
