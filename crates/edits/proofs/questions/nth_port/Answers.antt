@@ -1,0 +1,10 @@
+-- `nth_port` makes the choice of `nth_port` by the same test.
+use borrow.Author.Tests.{lt-ltb, le-ltb}
+use borrow.Author.Rules.{rules}
+use Rattle.edits.proofs.questions.nth_port.Goals as goal
+
+pub returns-then-offset-n : goal.returns-then-offset-n
+returns-then-offset-n c = simp (lt-ltb _ _ c.if-offset-n.true)
+
+pub returns : goal.returns
+returns c = simp (le-ltb _ _ c.if-offset-n.false)
