@@ -1,0 +1,15 @@
+-- After i turns the size is 1 grown i times, which 15 doublings keep below 65536.
+use Prim.Native.Nat.{ℕ, ◌-◌, ◌≤◌}
+use mathlib.Core.Path.{◌≡◌, refl, ◌∙◌, ap}
+use native.Mathlib.Omega.{arith}
+use native.Mathlib.Numerals.{add-one}
+use borrow.Author.Rules.{rules}
+use Rattle.renumber.specs.Resize.{grown_once, grown}
+use Rattle.renumber.proofs.ResizeLaws.{grown_small}
+use Rattle.renumber.proofs.resize.slab_size.Given as goal
+
+abbrev pub invariant-loop-i : goal.invariant-loop-i
+invariant-loop-i l = (l.i ≤ 15) × (l.size ≡ grown l.n l.i)
+
+abbrev pub decreases-loop-i : goal.decreases-loop-i
+decreases-loop-i l = 15 - l.i
