@@ -1,0 +1,18 @@
+-- `free_chain` claims the free slabs of one size along their chain: those that the walk has passed are claimed.
+use Prim.Native.Nat.{◌-◌}
+use mathlib.Core.Path.{◌≡◌, refl, ap, ◌∙◌}
+use native.Mathlib.Omega.{arith}
+use borrow.Author.Rules.{rules}
+use borrow.Author.Tests.{not-true, not-false}
+use lib.ListN.{length}
+use Rattle.slabs.proofs.Shapes.{filled-length}
+use Rattle.audit.proofs.TallyLaws.{tally_room}
+use Rattle.audit.proofs.FreeLaws.{Walked, walked_none, walked_more, walked_stuck, walked_all}
+use Rattle.audit.proofs.ports.free_chain.Given as goal
+
+abbrev pub invariant-loop-word : goal.invariant-loop-word
+invariant-loop-word l =
+    (length l.scratch ≡ length l.initial.scratch) × Walked l.links l.owners l.initial.scratch l.mark l.head l.size l.scratch l.ports l.word
+
+abbrev pub decreases-loop-word : goal.decreases-loop-word
+decreases-loop-word l = l.mark - l.ports

@@ -1,0 +1,47 @@
+use Prim.Native.Nat.{◌-◌, ◌≤◌}
+use mathlib.Core.Path.{◌≡◌, refl}
+use mathlib.Core.Logic.{⊎_elim}
+use native.Mathlib.Omega.{arith}
+use borrow.Author.Rules.{rules}
+use native.Mathlib.Numerals.{add-one}
+use Rattle.slabs.specs.Sums.{sum}
+use Rattle.slabs.specs.NodeEntry.{slot_word}
+use Rattle.edits.specs.Counts.{live_slots}
+use Rattle.audit.proofs.CountLaws.{some_none, some_one, live_slots_suc}
+use Rattle.edits.proofs.CountLaws.{live_slots_le}
+use Rattle.audit.proofs.slots.live_slots.Goals as goal
+
+pub loop-k-init : goal.loop-k-init
+unfolding live_slots sum
+loop-k-init c = (omega arith, refl)
+
+pub overflow_mul-k : goal.overflow_mul-k
+overflow_mul-k c = omega arith
+
+pub overflow_add-k : goal.overflow_add-k
+overflow_add-k c = omega arith
+
+pub offset_bounds-slots-k : goal.offset_bounds-slots-k
+offset_bounds-slots-k c = omega arith
+
+pub bounds-slots-k : goal.bounds-slots-k
+bounds-slots-k c = omega arith
+
+pub overflow_add-live : goal.overflow_add-live
+overflow_add-live c =
+    let l = c.loop-k in
+    omega (arith, live_slots_le c.args.slots.now l.k)
+
+pub loop-k-preserved : goal.loop-k-preserved
+loop-k-preserved c =
+    let l = c.loop-k in
+    let slots = c.args.slots.now in (
+      omega arith,
+      rw (add-one, live_slots_suc)
+          (⊎_elim (λ w. omega (arith, some_one (slot_word slots l.k 1) w.0.taken)) (λ w. omega (arith, some_none (slot_word slots l.k 1) w.0.left)) c.if-slots-k-ne0.branch),
+    )
+
+pub returns : goal.returns
+returns c =
+    let e : c.loop-k.k ≡ c.args.mark = omega arith in
+    rw (← e) c.loop-k.invariant.1
