@@ -2,16 +2,15 @@
 use Prim.Native.Nat.{ℕ}
 use mathlib.Core.Path.{◌≡◌}
 use mathlib.Core.List.{List}
-use mathlib.Core.Bool.{Bool, true, false, not, false≢true}
-use borrow.Author.Tests.{not-true}
+use mathlib.Core.Bool.{Bool, true, false, false≢true}
 use Rattle.slabs.specs.Slab.{filled}
 use Rattle.audit.specs.Decides.{Decides}
 use Rattle.audit.specs.Parts.{RunIs, Claim, SlabClaimed}
 
 -- Where places cannot be claimed, one of them is taken.
-pub claim_failed : {scratch : List ℕ} {first n : ℕ} {scratch' : List ℕ} {r : Bool} → Claim scratch first n scratch' r → not r ≡ true
+pub claim_failed : {scratch : List ℕ} {first n : ℕ} {scratch' : List ℕ} {r : Bool} → Claim scratch first n scratch' r → r ≡ false
     → RunIs scratch first n 0 → ⊥
-claim_failed {r = r} h e free = let t = h.refused (not-true r e) in t.2 (free t.0 t.1)
+claim_failed h e free = let t = h.refused e in t.2 (free t.0 t.1)
 
 -- A slab is not claimed where it does not hold, or one of its places is taken;
 pub slab_refused : {fact : Type 0} {scratch : List ℕ} {first size : ℕ} {scratch' : List ℕ} → (fact → RunIs scratch first size 0 → ⊥)

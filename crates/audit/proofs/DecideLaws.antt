@@ -1,9 +1,9 @@
 -- How a test comes to decide a fact: by the fact, by its refutation, by another fact that says the same.
 use Prim.Native.Nat.{ℕ}
 use mathlib.Core.Path.{◌≡◌}
-use mathlib.Core.Bool.{Bool, true, false, not, true≢false, false≢true}
+use mathlib.Core.Bool.{Bool, true, false, true≢false, false≢true}
 use lib.Dec.{eqb}
-use borrow.Author.Tests.{eqb-true, eqb-false, not-true, not-false}
+use borrow.Author.Tests.{eqb-true, eqb-false}
 use Rattle.audit.specs.Decides.{Decides}
 
 -- A fact is decided by true,
@@ -19,12 +19,12 @@ pub decides_from : {r : Bool} {A B : Type 0} → Decides r A → (A → B) → (
 decides_from d there back = record { so = λ e. there (d.so e); not_so = λ e h. d.not_so e (back h) }
 
 -- What a test that failed says: the fact is not so.
-pub failed : {r : Bool} {fact : Type 0} → Decides r fact → not r ≡ true → fact → ⊥
-failed {r} d e h = d.not_so (not-true r e) h
+pub failed : {r : Bool} {fact : Type 0} → Decides r fact → r ≡ false → fact → ⊥
+failed d e h = d.not_so e h
 
 -- What a test that did not fail says: the fact.
-pub passed : {r : Bool} {fact : Type 0} → Decides r fact → not r ≡ false → fact
-passed {r} d e = d.so (not-false r e)
+pub passed : {r : Bool} {fact : Type 0} → Decides r fact → r ≡ true → fact
+passed d e = d.so e
 
 -- A test of two numbers decides whether they are equal.
 pub decides_eq : (a b : ℕ) → Decides (eqb a b) (a ≡ b)

@@ -20,7 +20,7 @@ free_chain-one-requires c =
 pub returns-then-not-one : goal.returns-then-not-one
 returns-then-not-one c =
     let l = c.loop-i in
-    let e = c.if-not-one.true in
+    let e = not-true _ c.if-not-one.true in
     record {
       so = λ b. absurd (true≢false (sym b ∙ e));
       not_so = λ b. free_stuck _ _ _ _ _ _ _ _ l.invariant.2 c.free_chain-one.ensures _ (omega arith) e;
@@ -29,7 +29,7 @@ returns-then-not-one c =
 pub loop-i-preserved : goal.loop-i-preserved
 loop-i-preserved c =
     let l = c.loop-i in
-    (omega arith, search rules, free_more _ _ _ _ _ _ _ _ l.invariant.2 c.free_chain-one.ensures c.if-not-one.false)
+    (omega arith, search rules, free_more _ _ _ _ _ _ _ _ l.invariant.2 c.free_chain-one.ensures (not-false _ c.if-not-one.false))
 
 pub returns : goal.returns
 returns c =

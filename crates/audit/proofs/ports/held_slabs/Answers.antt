@@ -10,6 +10,7 @@ use Rattle.slabs.proofs.Shapes.{filled-length}
 use Rattle.audit.proofs.TallyLaws.{tally_room}
 use Rattle.audit.proofs.HeldLaws.{HeldSoFar, held_none, held_free, held_live, held_stuck}
 use Rattle.audit.proofs.ports.held_slabs.Goals as goal
+use Rattle.audit.proofs.ports.held_slabs.Goals.{in-Node+else-not-held_slab_holds, in_default}
 
 pub loop-k-init : goal.loop-k-init
 loop-k-init c = (omega arith, refl, held_none _ _ _ _ _ c.requires.4)
@@ -39,13 +40,13 @@ overflow_add-ports c =
 pub loop-k-preserved : goal.loop-k-preserved
 loop-k-preserved c =
     let l = c.loop-k in
-    ⊎_elim
-    (λ w.
-    let e = sym c.read_slot-entry.ensures ∙ w.1.given.1 in
-    let t = w.4.ensures.so (not-false _ w.7.left) in
-    rw (w.9, w.10) (omega arith, ap length t.2 ∙ filled-length _ _ _ _ ∙ l.invariant.1, held_live _ _ _ _ _ _ _ l.invariant.2 _ e t (omega (arith, l.invariant.1))))
-    (λ w. rw (w.2, w.3) (omega arith, l.invariant.1, held_free _ _ _ _ _ _ _ l.invariant.2 _ _ (sym c.read_slot-entry.ensures ∙ w.1.given.1)))
-    c.match-entry.branch
+    elim c.match-entry.branch [
+      in-Node+else-not-held_slab_holds w ↦
+        let e = sym c.read_slot-entry.ensures ∙ w.in-Node.is in
+        let t = w.held_slab_holds.ensures.so w.if-not-held_slab_holds.false in
+        rw (w.scratch-is, w.ports-is) (omega arith, ap length t.2 ∙ filled-length _ _ _ _ ∙ l.invariant.1, held_live _ _ _ _ _ _ _ l.invariant.2 _ e t (omega (arith, l.invariant.1)))
+      | in_default w ↦ rw (w.scratch-is, w.ports-is) (omega arith, l.invariant.1, held_free _ _ _ _ _ _ _ l.invariant.2 _ _ (sym c.read_slot-entry.ensures ∙ w.in_default.is))
+    ]
 
 pub returns : goal.returns
 returns c =

@@ -19,6 +19,7 @@ use Rattle.edits.proofs.CountLaws.{live_ports_le}
 use Rattle.audit.proofs.PortLaws.{word_free, word_port}
 use Rattle.audit.proofs.ports.ports_hold.Invariants.{Looked}
 use Rattle.audit.proofs.ports.ports_hold.Goals as goal
+use Rattle.audit.proofs.ports.ports_hold.Goals.{in-Port+else-not-mate_holds+then-links-p-ne0, in-Port+else-not-mate_holds+else-links-p-ne0, in_default}
 
 -- one port more
 module _ (links owners : List ℕ) (mark ports pairs p : ℕ) (looked : Looked links owners mark ports pairs p) (more : p < mark) where
@@ -65,24 +66,23 @@ loop-p-preserved c =
     let owners = c.args.owners.now in
     let more = look links owners c.args.counters.portmark l.ports l.pairs l.p l.invariant c.loop-p-test.true c.match-entry.ports c.match-entry.pairs in
     let entry = sym c.port_entry-entry.ensures in
-    ⊎_elim
-    (λ w.
-    let said = word_port _ _ _ (entry ∙ w.1.given.1) in
-    more (λ h. passed w.3.ensures w.4.left)
-    (omega (arith, w.7, some_one (get_or owners l.p 0) said.0))
-    (omega (arith, w.8, said.1, outlet_wired (get_or owners l.p 0) (get_or links l.p 0) said.0 w.6.taken)))
-    (⊎_elim
-    (λ w.
-    let said = word_port _ _ _ (entry ∙ w.1.given.1) in
-    more (λ h. passed w.3.ensures w.4.left)
-    (omega (arith, w.7, some_one (get_or owners l.p 0) said.0))
-    (omega (arith, w.8, outlet_loose (get_or owners l.p 0) (get_or links l.p 0) w.6.left)))
-    (λ w.
-    let none = word_free _ (entry ∙ w.1.given.1) in
-    more (λ h. absurd (h none))
-    (omega (arith, w.2, some_none (get_or owners l.p 0) none))
-    (omega (arith, w.3, outlet_free (get_or owners l.p 0) (get_or links l.p 0) none))))
-    c.match-entry.branch
+    elim c.match-entry.branch [
+      in-Port+else-not-mate_holds+then-links-p-ne0 w ↦
+        let said = word_port _ _ _ (entry ∙ w.in-Port.is) in
+        more (λ h. passed w.mate_holds.ensures w.if-not-mate_holds.false)
+        (omega (arith, w.ports-is, some_one (get_or owners l.p 0) said.0))
+        (omega (arith, w.pairs-is, said.1, outlet_wired (get_or owners l.p 0) (get_or links l.p 0) said.0 w.if-links-p-ne0.true))
+      | in-Port+else-not-mate_holds+else-links-p-ne0 w ↦
+        let said = word_port _ _ _ (entry ∙ w.in-Port.is) in
+        more (λ h. passed w.mate_holds.ensures w.if-not-mate_holds.false)
+        (omega (arith, w.ports-is, some_one (get_or owners l.p 0) said.0))
+        (omega (arith, w.pairs-is, outlet_loose (get_or owners l.p 0) (get_or links l.p 0) w.if-links-p-ne0.false))
+      | in_default w ↦
+        let none = word_free _ (entry ∙ w.in_default.is) in
+        more (λ h. absurd (h none))
+        (omega (arith, w.ports-is, some_none (get_or owners l.p 0) none))
+        (omega (arith, w.pairs-is, outlet_free (get_or owners l.p 0) (get_or links l.p 0) none))
+    ]
 
 pub returns-then-counters-ports : goal.returns-then-counters-ports
 returns-then-counters-ports c =

@@ -10,6 +10,7 @@ use Rattle.edits.specs.Counts.{live_slots}
 use Rattle.audit.proofs.CountLaws.{some_none, some_one, live_slots_suc}
 use Rattle.edits.proofs.CountLaws.{live_slots_le}
 use Rattle.audit.proofs.slots.live_slots.Goals as goal
+use Rattle.audit.proofs.slots.live_slots.Goals.{then-slots-k-ne0, else-slots-k-ne0}
 
 pub loop-k-init : goal.loop-k-init
 unfolding live_slots sum
@@ -38,7 +39,10 @@ loop-k-preserved c =
     let slots = c.args.slots.now in (
       omega arith,
       rw (add-one, live_slots_suc)
-          (⊎_elim (λ w. omega (arith, some_one (slot_word slots l.k 1) w.0.taken)) (λ w. omega (arith, some_none (slot_word slots l.k 1) w.0.left)) c.if-slots-k-ne0.branch),
+          (elim c.if-slots-k-ne0.branch [
+            then-slots-k-ne0 w ↦ omega (arith, some_one (slot_word slots l.k 1) w.if-slots-k-ne0.true)
+            | else-slots-k-ne0 w ↦ omega (arith, some_none (slot_word slots l.k 1) w.if-slots-k-ne0.false)
+          ]),
     )
 
 pub returns : goal.returns

@@ -28,7 +28,7 @@ unfolding filled
 loop-i-init c = record { within = omega arith; were_free = below_none _; words = refl }
 
 pub offset_bounds-scratch-first : goal.offset_bounds-scratch-first
-offset_bounds-scratch-first c = omega (arith, c.items_fit)
+offset_bounds-scratch-first c = omega arith
 
 pub bounds-scratch-first : goal.bounds-scratch-first
 bounds-scratch-first c = omega (arith, same c.loop-i.invariant)
@@ -39,7 +39,7 @@ returns-then-scratch-first-ne0 c =
     record { claimed = λ e. absurd (false≢true e); refused = λ e. (l.i, omega arith, λ z. c.if-scratch-first-ne0.true (untaken l.invariant ∙ z), l.invariant.words) }
 
 pub offset_bounds-scratch-first-in-loop-i : goal.offset_bounds-scratch-first-in-loop-i
-offset_bounds-scratch-first-in-loop-i c = omega (arith, c.items_fit)
+offset_bounds-scratch-first-in-loop-i c = omega arith
 
 pub bounds-scratch-first-in-loop-i : goal.bounds-scratch-first-in-loop-i
 bounds-scratch-first-in-loop-i c = omega (arith, same c.loop-i.invariant)
