@@ -2,7 +2,7 @@
 use Prim.Native.Nat.{ℕ}
 use mathlib.Core.Path.{◌≡◌}
 use mathlib.Core.List.{List}
-use mathlib.Core.Bool.{Bool, true, false, false≢true}
+use mathlib.Core.Bool.{Bool, false, false≢true}
 use Rattle.slabs.specs.Slab.{filled}
 use Rattle.audit.specs.Decides.{Decides}
 use Rattle.audit.specs.Parts.{RunIs, Claim, SlabClaimed}

@@ -1,6 +1,5 @@
 -- `marks_hold` decides rule 1: each failed test refutes one part of it.
 use native.Mathlib.Omega.{arith}
-use borrow.Author.Rules.{rules}
 use Rattle.audit.proofs.DecideLaws.{decided_not, decides_from, passed, failed}
 use Rattle.audit.proofs.marks_hold.Goals as goal
 

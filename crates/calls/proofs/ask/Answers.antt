@@ -1,6 +1,5 @@
 -- The number of the call picks the question, as in the definition, and a number that no call has is answered so.
 use borrow.Author.Tests.{ne_eqb}
-use borrow.Author.Rules.{rules}
 use Rattle.renumber.proofs.PackLaws.{fits_wider}
 use Rattle.calls.specs.Call.{question}
 use Rattle.calls.proofs.ask.Goals as goal

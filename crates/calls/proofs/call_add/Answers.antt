@@ -1,8 +1,6 @@
 -- An add that `add_answer` refuses leaves every lent word; one that it answers with done can be done, and leaves what `add` does.
 use mathlib.Core.Path.{◌≡◌, sym, ◌∙◌}
 use mathlib.Core.Bool.{true, false}
-use borrow.Author.Rules.{rules}
-use borrow.Author.Tests.{not-true, not-false}
 use Rattle.edits.specs.Answer.{is_done}
 use Rattle.edits.specs.Store.{store_of}
 use Rattle.edits.specs.Steps.{added}

@@ -4,7 +4,6 @@ use mathlib.Core.Path.{◌≡◌, refl, sym, ap, ◌∙◌}
 use mathlib.Core.Bool.{Bool, true, false}
 use mathlib.Core.List.{List}
 use native.Mathlib.Omega.{arith}
-use borrow.Author.Rules.{rules}
 use Rattle.slabs.specs.declared.counters.Counters.{Counters}
 use Rattle.edits.specs.Store.{Store}
 use Rattle.edits.specs.Answer.{is_done}

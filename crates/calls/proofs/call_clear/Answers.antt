@@ -1,6 +1,5 @@
 -- A clear is always done: every lent word becomes what `clear` leaves, and nothing is recorded.
 use mathlib.Core.Path.{refl}
-use borrow.Author.Rules.{rules}
 use Rattle.edits.specs.Store.{store_of}
 use Rattle.edits.specs.Clear.{cleared}
 use Rattle.edits.specs.declared.answer.Answer.TheVariants.{Done}

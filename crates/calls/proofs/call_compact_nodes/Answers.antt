@@ -1,11 +1,9 @@
 -- Of a compaction of the nodes that is done there is room for a record of each node, and those are the live slots.
-use mathlib.Core.Path.{◌≡◌, ◌∙◌, sym, refl, ap}
-use borrow.Author.Tests.{not-true, not-false}
+use mathlib.Core.Path.{◌∙◌, sym, refl, ap}
 use Rattle.renumber.specs.Compact.{compact_answer, nodes_compacted, node_records}
-use Rattle.calls.specs.Call.{remaining, compact_nodes_call}
+use Rattle.calls.specs.Call.{compact_nodes_call}
 use Rattle.calls.proofs.BecameLaws.{became_refused}
 use Rattle.calls.proofs.RoomLaws.{can_pack_nodes, nodes_recorded, became_logged}
-use borrow.Author.Rules.{rules}
 use Rattle.calls.proofs.call_compact_nodes.Goals as goal
 
 pub returns-then-not-is_done : goal.returns-then-not-is_done

@@ -1,11 +1,9 @@
 -- Of a compaction of the ports that is done there is room for a record of each port, and those are the live ports.
-use mathlib.Core.Path.{◌≡◌, ◌∙◌, sym, ap}
-use borrow.Author.Tests.{not-true, not-false}
+use mathlib.Core.Path.{◌∙◌, sym, ap}
 use Rattle.renumber.specs.Compact.{compact_answer, port_records}
-use Rattle.calls.specs.Call.{remaining, compact_ports_call}
+use Rattle.calls.specs.Call.{compact_ports_call}
 use Rattle.calls.proofs.BecameLaws.{became_refused}
 use Rattle.calls.proofs.RoomLaws.{compact_room, ports_recorded, became_logged}
-use borrow.Author.Rules.{rules}
 use Rattle.calls.proofs.call_compact_ports.Goals as goal
 
 pub returns-then-not-is_done : goal.returns-then-not-is_done

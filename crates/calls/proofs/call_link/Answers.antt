@@ -1,11 +1,9 @@
 -- The ports of a link that is done stand below the mark, so its wire fits the table of links.
 use mathlib.Core.Path.{◌∙◌, sym, refl}
 use native.Mathlib.Omega.{arith}
-use borrow.Author.Tests.{not-true, not-false}
 use Rattle.calls.specs.Call.{link_call}
 use Rattle.calls.proofs.BecameLaws.{became_refused, became_quiet}
 use Rattle.calls.proofs.LinkAnswerLaws.{link_done}
-use borrow.Author.Rules.{rules}
 use Rattle.calls.proofs.call_link.Goals as goal
 
 pub returns-then-not-is_done : goal.returns-then-not-is_done

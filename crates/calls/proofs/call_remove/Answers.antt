@@ -1,6 +1,5 @@
 -- `call_remove` goes by the entry that `node_at` reads, as `remove_answer` does: a free slot is refused, and a live one can be removed.
 use mathlib.Core.Path.{◌≡◌, refl, sym, ◌∙◌}
-use borrow.Author.Rules.{rules}
 use Rattle.slabs.specs.declared.node_entry.NodeEntry.TheVariants.{Node}
 use Rattle.edits.specs.Store.{store_of, node_at}
 use Rattle.edits.specs.Steps.{remove_answer, removed}

@@ -1,8 +1,6 @@
 -- A swap that `swap_answer` refuses leaves every lent word; one that it answers with done is of two slots below the mark, and leaves what `swap` does.
 use mathlib.Core.Path.{◌≡◌, refl, sym, ◌∙◌}
 use mathlib.Core.Bool.{true, false}
-use borrow.Author.Rules.{rules}
-use borrow.Author.Tests.{not-true, not-false}
 use Rattle.edits.specs.Answer.{is_done}
 use Rattle.edits.specs.Store.{store_of}
 use Rattle.edits.specs.Swap.{swapped}

@@ -1,12 +1,10 @@
 -- The port of an unlink that is done stands below the mark, so it has a word in the table of links.
 use mathlib.Core.Path.{◌∙◌, sym, refl, ap}
 use native.Mathlib.Omega.{arith}
-use borrow.Author.Tests.{not-true, not-false}
 use Rattle.slabs.specs.Counters.{links_uncounted}
 use Rattle.calls.specs.Call.{unlink_call}
 use Rattle.calls.proofs.BecameLaws.{became_refused, became_quiet}
 use Rattle.calls.proofs.LinkAnswerLaws.{unlink_done}
-use borrow.Author.Rules.{rules}
 use Rattle.calls.proofs.call_unlink.Goals as goal
 
 pub returns-then-not-is_done : goal.returns-then-not-is_done

@@ -1,6 +1,5 @@
 -- `calls::dispatch` meets its contract: at each number the definition of all calls is that of the call which was made.
-use borrow.Author.Rules.{rules}
-use mathlib.Core.Path.{refl, ◌∙◌}
+use mathlib.Core.Path.{◌∙◌}
 use Rattle.calls.proofs.BecameLaws.{became_same}
 use Rattle.calls.proofs.DispatchLaws.{became_as, number_0, number_1, number_2, number_3, number_4, number_5, number_6, number_7, number_8, number_rest}
 use Rattle.calls.proofs.dispatch.Goals as goal

@@ -1,11 +1,7 @@
-use Prim.Native.Nat.{◌+◌, ◌-◌, ◌*◌, ◌≤◌, ◌<◌}
 use mathlib.Core.Path.{refl}
 use native.Mathlib.Omega.{arith}
-use borrow.Author.Rules.{rules}
-use lib.ListN.{length}
-use Rattle.edits.specs.Store.{store_of}
-use Rattle.run.specs.Run.{call_width, CanAnswer}
-use Rattle.run.proofs.Steps.{Stands, stands_first, stands_next, stands_last, stands_answers, stands_log, stands_fit, stands_room}
+use Rattle.run.specs.Run.{CanAnswer}
+use Rattle.run.proofs.Steps.{stands_first, stands_next, stands_last, stands_answers, stands_fit, stands_room}
 use Rattle.run.proofs.answer_calls.Goals as goal
 
 pub loop-i-init : goal.loop-i-init

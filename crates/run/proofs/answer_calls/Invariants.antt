@@ -1,12 +1,9 @@
 -- After each call the tables, the answers and the log are those of its definition.
-use Prim.Native.Nat.{◌+◌, ◌-◌, ◌*◌, ◌≤◌, ◌<◌}
-use mathlib.Core.Path.{refl}
-use native.Mathlib.Omega.{arith}
-use borrow.Author.Rules.{rules}
+use Prim.Native.Nat.{◌-◌, ◌*◌}
 use lib.ListN.{length}
 use Rattle.edits.specs.Store.{store_of}
-use Rattle.run.specs.Run.{call_width, CanAnswer}
-use Rattle.run.proofs.Steps.{Stands, stands_first, stands_next, stands_last, stands_answers, stands_log, stands_fit, stands_room}
+use Rattle.run.specs.Run.{call_width}
+use Rattle.run.proofs.Steps.{Stands}
 use Rattle.run.proofs.answer_calls.Given as goal
 
 abbrev pub invariant-loop-i : goal.invariant-loop-i

@@ -1,7 +1,5 @@
 -- Broken lengths refuse the run, an unsound store refuses it with the scratch zeroed, and else the calls are answered.
-use borrow.Author.Rules.{rules}
-use Rattle.sound.specs.Sound.{Sound}
-use Rattle.run.specs.Run.{Lent, lent_of, Lengths, misshapen}
+use Rattle.run.specs.Run.{Lent, lent_of, misshapen}
 use Rattle.audit.proofs.DecideLaws.{failed, passed}
 use Rattle.run.proofs.RunLaws.{lengths_shaped, lengths_scratch, audit_refused, lengths_answer, answered_ran}
 use Rattle.run.proofs.run.Goals as goal

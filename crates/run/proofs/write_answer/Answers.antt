@@ -2,7 +2,6 @@
 use native.Mathlib.Omega.{arith}
 use native.Mathlib.Nat.{add-zero}
 use lib.ListN.{length-set}
-use borrow.Author.Rules.{rules}
 use Rattle.run.proofs.write_answer.Goals as goal
 
 pub bounds-answers-base-2 : goal.bounds-answers-base-2

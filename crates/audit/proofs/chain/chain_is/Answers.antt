@@ -2,11 +2,9 @@ use Prim.Native.Nat.{ℕ, suc, ◌+◌, ◌-◌, ◌≤◌, ◌<◌}
 use mathlib.Core.Path.{◌≡◌}
 use mathlib.Core.List.{List}
 use native.Mathlib.Omega.{arith}
-use borrow.Author.Rules.{rules}
 use Rattle.slabs.specs.NodeEntry.{slot_word}
 use Rattle.audit.specs.Parts.{LinkHolds, Walk}
 use Rattle.audit.proofs.DecideLaws.{decided_not, decides_from, decides_eq, passed, failed}
-use Rattle.audit.proofs.chain.chain_is.Invariants.{Walked}
 use Rattle.audit.proofs.chain.chain_is.Goals as goal
 
 module _ (slots : List ℕ) (mark word before n i : ℕ) (more : i < n) where

@@ -1,12 +1,7 @@
 -- `chain_is` decides the walk over n free slots: what is left of it after i steps holds exactly where all of it does.
-use Prim.Native.Nat.{ℕ, suc, ◌+◌, ◌-◌, ◌≤◌, ◌<◌}
-use mathlib.Core.Path.{◌≡◌}
+use Prim.Native.Nat.{ℕ, ◌-◌, ◌≤◌}
 use mathlib.Core.List.{List}
-use native.Mathlib.Omega.{arith}
-use borrow.Author.Rules.{rules}
-use Rattle.slabs.specs.NodeEntry.{slot_word}
-use Rattle.audit.specs.Parts.{LinkHolds, Walk}
-use Rattle.audit.proofs.DecideLaws.{decided_not, decides_from, decides_eq, passed, failed}
+use Rattle.audit.specs.Parts.{Walk}
 use Rattle.audit.proofs.chain.chain_is.Given as goal
 
 -- after i steps

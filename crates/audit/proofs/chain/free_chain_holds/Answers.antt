@@ -1,6 +1,5 @@
 -- `free_chain_holds` decides rule 3 and the count of nodes: as many slots are on the chain as are not live.
 use mathlib.Core.Path.{sym, ◌∙◌}
-use borrow.Author.Rules.{rules}
 use Rattle.audit.proofs.DecideLaws.{decided_not, decides_from}
 use Rattle.edits.proofs.CountLaws.{live_slots_le}
 use Rattle.audit.proofs.chain.free_chain_holds.Goals as goal

@@ -1,7 +1,6 @@
 -- `link_holds` decides one step of the walk over the free slots.
 use native.Mathlib.Nat.{add-zero}
 use native.Mathlib.Omega.{arith}
-use borrow.Author.Rules.{rules}
 use Rattle.audit.proofs.DecideLaws.{decided_not, decides_from, decides_eq}
 use Rattle.audit.proofs.chain.link_holds.Goals as goal
 

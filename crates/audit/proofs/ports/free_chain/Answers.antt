@@ -1,12 +1,10 @@
 use Prim.Native.Nat.{◌-◌}
-use mathlib.Core.Path.{◌≡◌, refl, ap, ◌∙◌}
+use mathlib.Core.Path.{refl, ap, ◌∙◌}
 use native.Mathlib.Omega.{arith}
-use borrow.Author.Rules.{rules}
-use borrow.Author.Tests.{not-true, not-false}
 use lib.ListN.{length}
 use Rattle.slabs.proofs.Shapes.{filled-length}
 use Rattle.audit.proofs.TallyLaws.{tally_room}
-use Rattle.audit.proofs.FreeLaws.{Walked, walked_none, walked_more, walked_stuck, walked_all}
+use Rattle.audit.proofs.FreeLaws.{walked_none, walked_more, walked_stuck, walked_all}
 use Rattle.audit.proofs.ports.free_chain.Goals as goal
 
 pub loop-word-init : goal.loop-word-init

@@ -1,13 +1,8 @@
 -- `free_chain` claims the free slabs of one size along their chain: those that the walk has passed are claimed.
 use Prim.Native.Nat.{◌-◌}
-use mathlib.Core.Path.{◌≡◌, refl, ap, ◌∙◌}
-use native.Mathlib.Omega.{arith}
-use borrow.Author.Rules.{rules}
-use borrow.Author.Tests.{not-true, not-false}
+use mathlib.Core.Path.{◌≡◌}
 use lib.ListN.{length}
-use Rattle.slabs.proofs.Shapes.{filled-length}
-use Rattle.audit.proofs.TallyLaws.{tally_room}
-use Rattle.audit.proofs.FreeLaws.{Walked, walked_none, walked_more, walked_stuck, walked_all}
+use Rattle.audit.proofs.FreeLaws.{Walked}
 use Rattle.audit.proofs.ports.free_chain.Given as goal
 
 abbrev pub invariant-loop-word : goal.invariant-loop-word

@@ -1,7 +1,5 @@
 -- `free_slab_holds` claims a free slab where it holds and no port of it is claimed: each test decides one part of that.
 use native.Mathlib.Omega.{arith}
-use borrow.Author.Rules.{rules}
-use borrow.Author.Tests.{not-false}
 use Rattle.audit.proofs.DecideLaws.{decides_from, failed, passed}
 use Rattle.audit.proofs.ClaimLaws.{claim_failed, slab_refused, slab_decided}
 use Rattle.audit.proofs.ports.free_slab_holds.Goals as goal

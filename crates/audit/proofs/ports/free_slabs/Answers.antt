@@ -1,11 +1,10 @@
-use Prim.Native.Nat.{◌-◌, ◌≤◌}
 use mathlib.Core.Path.{◌≡◌, refl, sym, ◌∙◌}
 use mathlib.Core.Bool.{true≢false}
 use native.Mathlib.Omega.{arith}
 use borrow.Author.Rules.{rules}
 use borrow.Author.Tests.{not-true, not-false}
 use lib.ListN.{length}
-use Rattle.audit.proofs.FreeLaws.{FreeSoFar, free_none, free_more, free_stuck}
+use Rattle.audit.proofs.FreeLaws.{free_none, free_more, free_stuck}
 use Rattle.audit.proofs.ports.free_slabs.Goals as goal
 
 pub loop-i-init : goal.loop-i-init

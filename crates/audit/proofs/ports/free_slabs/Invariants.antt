@@ -1,12 +1,8 @@
 -- `free_slabs` claims the free slabs of all sizes, chain by chain: those of the first i sizes are claimed.
 use Prim.Native.Nat.{◌-◌, ◌≤◌}
-use mathlib.Core.Path.{◌≡◌, refl, sym, ◌∙◌}
-use mathlib.Core.Bool.{true≢false}
-use native.Mathlib.Omega.{arith}
-use borrow.Author.Rules.{rules}
-use borrow.Author.Tests.{not-true, not-false}
+use mathlib.Core.Path.{◌≡◌}
 use lib.ListN.{length}
-use Rattle.audit.proofs.FreeLaws.{FreeSoFar, free_none, free_more, free_stuck}
+use Rattle.audit.proofs.FreeLaws.{FreeSoFar}
 use Rattle.audit.proofs.ports.free_slabs.Given as goal
 
 abbrev pub invariant-loop-i : goal.invariant-loop-i

@@ -1,7 +1,5 @@
 -- `held_slab_holds` claims the slab of a live slot where it holds and no port of it is claimed: each test decides one part of that.
 use native.Mathlib.Omega.{arith}
-use borrow.Author.Rules.{rules}
-use borrow.Author.Tests.{not-false}
 use Rattle.audit.proofs.DecideLaws.{decides_from}
 use Rattle.audit.proofs.ClaimLaws.{claim_failed, slab_refused, slab_decided}
 use Rattle.audit.proofs.ports.held_slab_holds.Goals as goal

@@ -1,14 +1,10 @@
-use Prim.Native.Nat.{◌-◌, ◌≤◌}
 use mathlib.Core.Path.{◌≡◌, refl, ap, sym, ◌∙◌}
-use mathlib.Core.Logic.{⊎_elim}
 use mathlib.Core.Bool.{true≢false, false≢true}
 use native.Mathlib.Omega.{arith}
-use borrow.Author.Rules.{rules}
-use borrow.Author.Tests.{not-true, not-false}
 use lib.ListN.{length}
 use Rattle.slabs.proofs.Shapes.{filled-length}
 use Rattle.audit.proofs.TallyLaws.{tally_room}
-use Rattle.audit.proofs.HeldLaws.{HeldSoFar, held_none, held_free, held_live, held_stuck}
+use Rattle.audit.proofs.HeldLaws.{held_none, held_free, held_live, held_stuck}
 use Rattle.audit.proofs.ports.held_slabs.Goals as goal
 use Rattle.audit.proofs.ports.held_slabs.Goals.{in-Node+else-not-held_slab_holds, in_default}
 
@@ -41,10 +37,10 @@ pub loop-k-preserved : goal.loop-k-preserved
 loop-k-preserved c =
     let l = c.loop-k in
     elim c.match-entry.branch [
-      in-Node+else-not-held_slab_holds w ↦
-        let e = sym c.read_slot-entry.ensures ∙ w.in-Node.is in
-        let t = w.held_slab_holds.ensures.so w.if-not-held_slab_holds.false in
-        rw (w.scratch-is, w.ports-is) (omega arith, ap length t.2 ∙ filled-length _ _ _ _ ∙ l.invariant.1, held_live _ _ _ _ _ _ _ l.invariant.2 _ e t (omega (arith, l.invariant.1)))
+      | in-Node+else-not-held_slab_holds w ↦
+          let e = sym c.read_slot-entry.ensures ∙ w.in-Node.is in
+          let t = w.held_slab_holds.ensures.so w.if-not-held_slab_holds.false in
+          rw (w.scratch-is, w.ports-is) (omega arith, ap length t.2 ∙ filled-length _ _ _ _ ∙ l.invariant.1, held_live _ _ _ _ _ _ _ l.invariant.2 _ e t (omega (arith, l.invariant.1)))
       | in_default w ↦ rw (w.scratch-is, w.ports-is) (omega arith, l.invariant.1, held_free _ _ _ _ _ _ _ l.invariant.2 _ _ (sym c.read_slot-entry.ensures ∙ w.in_default.is))
     ]
 

@@ -1,15 +1,8 @@
 -- `held_slabs` claims the slabs of all live slots, slot by slot: those of the slots below k are claimed.
 use Prim.Native.Nat.{◌-◌, ◌≤◌}
-use mathlib.Core.Path.{◌≡◌, refl, ap, sym, ◌∙◌}
-use mathlib.Core.Logic.{⊎_elim}
-use mathlib.Core.Bool.{true≢false, false≢true}
-use native.Mathlib.Omega.{arith}
-use borrow.Author.Rules.{rules}
-use borrow.Author.Tests.{not-true, not-false}
+use mathlib.Core.Path.{◌≡◌}
 use lib.ListN.{length}
-use Rattle.slabs.proofs.Shapes.{filled-length}
-use Rattle.audit.proofs.TallyLaws.{tally_room}
-use Rattle.audit.proofs.HeldLaws.{HeldSoFar, held_none, held_free, held_live, held_stuck}
+use Rattle.audit.proofs.HeldLaws.{HeldSoFar}
 use Rattle.audit.proofs.ports.held_slabs.Given as goal
 
 abbrev pub invariant-loop-k : goal.invariant-loop-k

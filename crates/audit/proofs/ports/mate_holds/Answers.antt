@@ -2,7 +2,6 @@
 use Prim.Native.Nat.{◌-◌}
 use mathlib.Core.Path.{sym, ◌∙◌}
 use native.Mathlib.Omega.{arith}
-use borrow.Author.Rules.{rules}
 use native.Mathlib.Numerals.{add-one}
 use lib.ListN.{get_or}
 use Rattle.audit.proofs.PortLaws.{word_free, word_port, mate_there, mate_back}

@@ -1,10 +1,8 @@
-use Prim.Native.Nat.{ℕ, ◌+◌, ◌-◌, ◌≤◌, ◌<◌}
+use Prim.Native.Nat.{ℕ, ◌+◌, ◌<◌}
 use mathlib.Core.Path.{◌≡◌, refl, sym, ◌∙◌}
 use mathlib.Core.List.{List}
-use mathlib.Core.Logic.{⊎_elim}
 use native.Mathlib.Omega.{arith}
 use native.Mathlib.Numerals.{add-one}
-use borrow.Author.Rules.{rules}
 use borrow.Author.Count.{below_none, below_more}
 use Rattle.slabs.specs.PortEntry.{Live}
 use Rattle.slabs.specs.Links as wires
@@ -67,21 +65,21 @@ loop-p-preserved c =
     let more = look links owners c.args.counters.portmark l.ports l.pairs l.p l.invariant c.loop-p-test.true c.match-entry.ports c.match-entry.pairs in
     let entry = sym c.port_entry-entry.ensures in
     elim c.match-entry.branch [
-      in-Port+else-not-mate_holds+then-links-p-ne0 w ↦
-        let said = word_port _ _ _ (entry ∙ w.in-Port.is) in
-        more (λ h. passed w.mate_holds.ensures w.if-not-mate_holds.false)
-        (omega (arith, w.ports-is, some_one (get_or owners l.p 0) said.0))
-        (omega (arith, w.pairs-is, said.1, outlet_wired (get_or owners l.p 0) (get_or links l.p 0) said.0 w.if-links-p-ne0.true))
+      | in-Port+else-not-mate_holds+then-links-p-ne0 w ↦
+          let said = word_port _ _ _ (entry ∙ w.in-Port.is) in
+          more (λ h. passed w.mate_holds.ensures w.if-not-mate_holds.false)
+          (omega (arith, w.ports-is, some_one (get_or owners l.p 0) said.0))
+          (omega (arith, w.pairs-is, said.1, outlet_wired (get_or owners l.p 0) (get_or links l.p 0) said.0 w.if-links-p-ne0.true))
       | in-Port+else-not-mate_holds+else-links-p-ne0 w ↦
-        let said = word_port _ _ _ (entry ∙ w.in-Port.is) in
-        more (λ h. passed w.mate_holds.ensures w.if-not-mate_holds.false)
-        (omega (arith, w.ports-is, some_one (get_or owners l.p 0) said.0))
-        (omega (arith, w.pairs-is, outlet_loose (get_or owners l.p 0) (get_or links l.p 0) w.if-links-p-ne0.false))
+          let said = word_port _ _ _ (entry ∙ w.in-Port.is) in
+          more (λ h. passed w.mate_holds.ensures w.if-not-mate_holds.false)
+          (omega (arith, w.ports-is, some_one (get_or owners l.p 0) said.0))
+          (omega (arith, w.pairs-is, outlet_loose (get_or owners l.p 0) (get_or links l.p 0) w.if-links-p-ne0.false))
       | in_default w ↦
-        let none = word_free _ (entry ∙ w.in_default.is) in
-        more (λ h. absurd (h none))
-        (omega (arith, w.ports-is, some_none (get_or owners l.p 0) none))
-        (omega (arith, w.pairs-is, outlet_free (get_or owners l.p 0) (get_or links l.p 0) none))
+          let none = word_free _ (entry ∙ w.in_default.is) in
+          more (λ h. absurd (h none))
+          (omega (arith, w.ports-is, some_none (get_or owners l.p 0) none))
+          (omega (arith, w.pairs-is, outlet_free (get_or owners l.p 0) (get_or links l.p 0) none))
     ]
 
 pub returns-then-counters-ports : goal.returns-then-counters-ports

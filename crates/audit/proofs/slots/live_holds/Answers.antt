@@ -1,6 +1,5 @@
 -- `live_holds` decides rule 2 for a live slot: each failed test refutes one part of it.
 use native.Mathlib.Omega.{arith}
-use borrow.Author.Rules.{rules}
 use Rattle.audit.proofs.DecideLaws.{decided_so, decided_not, decides_from, decides_eq}
 use Rattle.audit.proofs.slots.live_holds.Goals as goal
 

@@ -1,8 +1,5 @@
-use Prim.Native.Nat.{◌-◌, ◌≤◌}
 use mathlib.Core.Path.{◌≡◌, refl}
-use mathlib.Core.Logic.{⊎_elim}
 use native.Mathlib.Omega.{arith}
-use borrow.Author.Rules.{rules}
 use native.Mathlib.Numerals.{add-one}
 use Rattle.slabs.specs.Sums.{sum}
 use Rattle.slabs.specs.NodeEntry.{slot_word}
@@ -40,7 +37,7 @@ loop-k-preserved c =
       omega arith,
       rw (add-one, live_slots_suc)
           (elim c.if-slots-k-ne0.branch [
-            then-slots-k-ne0 w ↦ omega (arith, some_one (slot_word slots l.k 1) w.if-slots-k-ne0.true)
+            | then-slots-k-ne0 w ↦ omega (arith, some_one (slot_word slots l.k 1) w.if-slots-k-ne0.true)
             | else-slots-k-ne0 w ↦ omega (arith, some_none (slot_word slots l.k 1) w.if-slots-k-ne0.false)
           ]),
     )

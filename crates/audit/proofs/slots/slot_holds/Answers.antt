@@ -1,5 +1,4 @@
 -- `slot_holds` decides rule 2 for one slot, by what it says.
-use borrow.Author.Rules.{rules}
 use Rattle.audit.proofs.DecideLaws.{decides_eq}
 use mathlib.Core.Path.{sym, ◌∙◌}
 use Rattle.audit.proofs.slots.slot_holds.Goals as goal

@@ -1,11 +1,6 @@
 -- `slots_hold` decides rule 2: each slot that the loop has passed keeps it.
 use Prim.Native.Nat.{◌-◌, ◌≤◌}
-use mathlib.Core.Path.{◌≡◌}
-use native.Mathlib.Omega.{arith}
-use borrow.Author.Rules.{rules}
-use borrow.Author.Count.{below_none, below_more}
 use Rattle.audit.specs.Parts.{SlotsHold}
-use Rattle.audit.proofs.DecideLaws.{decided_so, decided_not, passed, failed}
 use Rattle.audit.proofs.slots.slots_hold.Given as goal
 
 abbrev pub invariant-loop-k : goal.invariant-loop-k

@@ -1,9 +1,8 @@
-use Prim.Native.Nat.{ℕ, ◌+◌, ◌-◌, ◌≤◌, ◌<◌}
+use Prim.Native.Nat.{ℕ, ◌+◌, ◌≤◌, ◌<◌}
 use mathlib.Core.Path.{◌≡◌}
 use mathlib.Core.List.{List}
 use native.Mathlib.Omega.{arith}
 use native.Mathlib.Decide.{dec_lt}
-use borrow.Author.Rules.{rules}
 use lib.ListN.{length, get_or, get_or-eq_default}
 use Rattle.audit.specs.Parts.{BlankFrom}
 use Rattle.audit.proofs.DecideLaws.{decided_so, decided_not}

@@ -1,13 +1,7 @@
 -- `blank_from` decides whether a table is blank from a place on: all words that the loop has passed are 0.
-use Prim.Native.Nat.{ℕ, ◌+◌, ◌-◌, ◌≤◌, ◌<◌}
+use Prim.Native.Nat.{ℕ, ◌-◌, ◌≤◌, ◌<◌}
 use mathlib.Core.Path.{◌≡◌}
-use mathlib.Core.List.{List}
-use native.Mathlib.Omega.{arith}
-use native.Mathlib.Decide.{dec_lt}
-use borrow.Author.Rules.{rules}
-use lib.ListN.{length, get_or, get_or-eq_default}
-use Rattle.audit.specs.Parts.{BlankFrom}
-use Rattle.audit.proofs.DecideLaws.{decided_so, decided_not}
+use lib.ListN.{length, get_or}
 use Rattle.audit.proofs.words.blank_from.Given as goal
 
 abbrev pub invariant-loop-i : goal.invariant-loop-i

@@ -1,16 +1,14 @@
-use Prim.Native.Nat.{ℕ, ◌+◌, ◌-◌, ◌≤◌}
+use Prim.Native.Nat.{ℕ, ◌+◌}
 use mathlib.Core.Path.{◌≡◌, refl, sym, ap, ◌∙◌}
 use mathlib.Core.List.{List}
 use mathlib.Core.Bool.{true≢false, false≢true}
 use native.Mathlib.Omega.{arith}
 use native.Mathlib.Numerals.{add-one}
-use borrow.Author.Rules.{rules}
 use borrow.Author.Count.{below_none, below_more}
 use lib.ListN.{length, get_or}
 use Rattle.slabs.specs.Slab.{filled}
 use Rattle.slabs.proofs.Shapes.{filled-length}
 use Rattle.slabs.proofs.FillLaws.{filled_above}
-use Rattle.audit.specs.Parts.{RunIs}
 use Rattle.audit.proofs.words.claim.Invariants.{Taken}
 use Rattle.audit.proofs.words.claim.Goals as goal
 

@@ -1,16 +1,8 @@
 -- `claim` takes a run of places that are all free, or stops at the first that is not: the places that the loop has passed were free and hold 1.
-use Prim.Native.Nat.{ℕ, ◌+◌, ◌-◌, ◌≤◌}
-use mathlib.Core.Path.{◌≡◌, refl, sym, ap, ◌∙◌}
+use Prim.Native.Nat.{ℕ, ◌-◌, ◌≤◌}
+use mathlib.Core.Path.{◌≡◌}
 use mathlib.Core.List.{List}
-use mathlib.Core.Bool.{true≢false, false≢true}
-use native.Mathlib.Omega.{arith}
-use native.Mathlib.Numerals.{add-one}
-use borrow.Author.Rules.{rules}
-use borrow.Author.Count.{below_none, below_more}
-use lib.ListN.{length, get_or}
 use Rattle.slabs.specs.Slab.{filled}
-use Rattle.slabs.proofs.Shapes.{filled-length}
-use Rattle.slabs.proofs.FillLaws.{filled_above}
 use Rattle.audit.specs.Parts.{RunIs}
 use Rattle.audit.proofs.words.claim.Given as goal
 

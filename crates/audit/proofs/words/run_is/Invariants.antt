@@ -1,11 +1,6 @@
 -- `run_is` decides whether a run of places holds one word: all places that the loop has passed do.
 use Prim.Native.Nat.{◌-◌, ◌≤◌}
-use mathlib.Core.Path.{◌≡◌}
-use native.Mathlib.Omega.{arith}
-use borrow.Author.Rules.{rules}
-use borrow.Author.Count.{below_none, below_more}
 use Rattle.audit.specs.Parts.{RunIs}
-use Rattle.audit.proofs.DecideLaws.{decided_so, decided_not}
 use Rattle.audit.proofs.words.run_is.Given as goal
 
 abbrev pub invariant-loop-i : goal.invariant-loop-i

@@ -1,5 +1,4 @@
 -- `answer_words` says each answer by the number and the values of its arm, as `answer_words` does.
-use borrow.Author.Rules.{rules}
 use Rattle.edits.proofs.answer.answer_words.Goals as goal
 
 pub returns-in-Done : goal.returns-in-Done

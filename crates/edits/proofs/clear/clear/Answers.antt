@@ -1,6 +1,5 @@
 -- `clear` fills each table with 0 from its first word to its last, and hands back the counters of an empty store.
 use Rattle.edits.specs.Clear.{cleared}
-use borrow.Author.Rules.{rules}
 use Rattle.edits.proofs.clear.clear.Goals as goal
 
 pub returns : goal.returns

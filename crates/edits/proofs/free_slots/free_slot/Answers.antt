@@ -1,6 +1,5 @@
 -- `free_slot` makes the slot the previous of the old head, then writes it as a free slot whose next is the old head.
 use Rattle.edits.specs.FreeSlots.{slot_freed}
-use borrow.Author.Rules.{rules}
 use Rattle.edits.proofs.free_slots.free_slot.Goals as goal
 
 pub returns : goal.returns

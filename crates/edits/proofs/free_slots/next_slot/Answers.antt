@@ -1,7 +1,6 @@
 -- `next_slot` makes the choice of `next_slot` by the same test.
 use borrow.Author.Tests.{eq-eqb, ne_eqb}
 use Rattle.edits.specs.FreeSlots.{next_slot}
-use borrow.Author.Rules.{rules}
 use Rattle.edits.proofs.free_slots.next_slot.Goals as goal
 
 pub returns-then-counters-eq0 : goal.returns-then-counters-eq0

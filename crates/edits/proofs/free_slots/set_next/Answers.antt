@@ -1,7 +1,6 @@
 -- `set_next` writes the third word of the slot that the word names, and nothing where it names none.
 use borrow.Author.Tests.{eq-eqb, ne_eqb}
 use Rattle.edits.specs.FreeSlots.{set_next}
-use borrow.Author.Rules.{rules}
 use Rattle.edits.proofs.free_slots.set_next.Goals as goal
 
 pub returns-then-slot-ne0 : goal.returns-then-slot-ne0

@@ -2,7 +2,6 @@
 use borrow.Author.Tests.{eq-eqb, ne_eqb}
 use native.Mathlib.Nat.{add-zero}
 use Rattle.edits.specs.FreeSlots.{set_previous}
-use borrow.Author.Rules.{rules}
 use Rattle.edits.proofs.free_slots.set_previous.Goals as goal
 
 pub returns-then-slot-ne0 : goal.returns-then-slot-ne0

@@ -1,7 +1,6 @@
 -- `slot_at_hand` tests the head of the free chain, then the room above the node mark, as `slot_at_hand` does.
 use borrow.Author.Tests.{eq-eqb, ne_eqb}
 use Rattle.edits.specs.FreeSlots.{slot_at_hand}
-use borrow.Author.Rules.{rules}
 use Rattle.edits.proofs.free_slots.slot_at_hand.Goals as goal
 
 pub returns-then-counters-ne0 : goal.returns-then-counters-ne0

@@ -5,7 +5,6 @@ use Prim.Native.Nat.{ℕ, ◌-◌}
 use Rattle.slabs.specs.declared.counters.Counters.{Counters}
 use mathlib.Core.Path.{◌≡◌, ◌∙◌}
 use Rattle.edits.specs.FreeSlots.{next_slot, slot_taken, taken_node_mark, taken_free_slot}
-use borrow.Author.Rules.{rules}
 use Rattle.edits.proofs.free_slots.take_slot.Goals as goal
 
 -- where the chain has a slot, the slot that is taken is its head

@@ -1,7 +1,6 @@
 -- `join` writes the two link words of `joined`, in its order.
 use mathlib.Core.Path.{refl}
 use Rattle.edits.specs.Linking.{joined}
-use borrow.Author.Rules.{rules}
 use Rattle.edits.proofs.linking.join.Goals as goal
 
 pub returns : goal.returns

@@ -1,12 +1,9 @@
 -- `link_answer` goes by the owner word of each port, then by their directions, then by their link words, as `link_answer` does.
 use borrow.Author.Tests.{eq-eqb, ne_eqb}
 use native.Mathlib.Omega.{arith}
-use mathlib.Core.Path.{◌≡◌, ◌∙◌, sym}
-use Rattle.slabs.specs.declared.port_entry.PortEntry.TheVariants.{Port}
-use Rattle.edits.specs.Store.{port_at}
+use mathlib.Core.Path.{◌∙◌, sym}
 use Rattle.edits.specs.Linking.{link_answer}
 use Rattle.edits.proofs.StoreLaws.{port_below}
-use borrow.Author.Rules.{rules}
 use Rattle.edits.proofs.linking.link_answer.Goals as goal
 
 pub returns-in_default : goal.returns-in_default

@@ -3,7 +3,6 @@ use native.Mathlib.Omega.{arith}
 use mathlib.Core.Path.{◌∙◌, sym}
 use Rattle.edits.proofs.StoreLaws.{port_below}
 use Rattle.edits.specs.Linking.{unlink_answer}
-use borrow.Author.Rules.{rules}
 use Rattle.edits.proofs.linking.unlink_answer.Goals as goal
 
 pub returns-in_default : goal.returns-in_default

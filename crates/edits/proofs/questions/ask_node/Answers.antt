@@ -1,6 +1,5 @@
 -- `ask_node` goes by the entry that `node_at` reads, as `ask_node` does.
 use Rattle.edits.specs.Questions.{ask_node}
-use borrow.Author.Rules.{rules}
 use Rattle.edits.proofs.questions.ask_node.Goals as goal
 
 pub returns-in-Node : goal.returns-in-Node

@@ -1,11 +1,9 @@
 -- `ask_offset` goes by the direction and by what the slot says, as `ask_offset` does, and no sum wraps, since the step's ports lie inside the table.
-use Rattle.edits.specs.Fit.{SlotFits}
 use borrow.Author.Tests.{eq-eqb, ne_eqb, lt-ltb, le-ltb}
 use native.Mathlib.Omega.{arith}
 use mathlib.Core.Path.{◌∙◌, sym}
 use Rattle.edits.proofs.StoreLaws.{node_below, node_entry_lem}
 use Rattle.edits.specs.Questions.{ask_offset}
-use borrow.Author.Rules.{rules}
 use Rattle.edits.proofs.questions.ask_offset.Goals as goal
 
 pub returns-then-direction-gt1 : goal.returns-then-direction-gt1

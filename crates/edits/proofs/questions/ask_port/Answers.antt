@@ -1,7 +1,6 @@
 -- `ask_port` goes by the owner word of the port, then by the slot that the word names, as `ask_port` does.
 use borrow.Author.Tests.{eq-eqb, ne_eqb}
 use Rattle.edits.specs.Questions.{ask_port}
-use borrow.Author.Rules.{rules}
 use Rattle.edits.proofs.questions.ask_port.Goals as goal
 
 pub returns-in_default : goal.returns-in_default

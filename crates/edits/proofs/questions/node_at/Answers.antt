@@ -1,7 +1,6 @@
 -- `node_at` reads the slot below the mark, and calls it free at or above the mark, as `node_at` does.
 use borrow.Author.Tests.{lt-ltb, le-ltb}
 use Rattle.edits.specs.Store.{node_at}
-use borrow.Author.Rules.{rules}
 use Rattle.edits.proofs.questions.node_at.Goals as goal
 
 pub returns-then-node-mark : goal.returns-then-node-mark

@@ -1,6 +1,5 @@
 -- `nth_port` makes the choice of `nth_port` by the same test.
 use borrow.Author.Tests.{lt-ltb, le-ltb}
-use borrow.Author.Rules.{rules}
 use Rattle.edits.proofs.questions.nth_port.Goals as goal
 
 pub returns-then-offset-n : goal.returns-then-offset-n

@@ -1,7 +1,6 @@
 -- `port_at` reads the owner word below the mark, and calls the port free at or above the mark, as `port_at` does.
 use borrow.Author.Tests.{lt-ltb, le-ltb}
 use Rattle.edits.specs.Store.{port_at}
-use borrow.Author.Rules.{rules}
 use Rattle.edits.proofs.questions.port_at.Goals as goal
 
 pub returns-then-port-mark : goal.returns-then-port-mark

@@ -1,11 +1,7 @@
 -- The slot and the slab are those of the parts that were called, and the counts, which are true ones, are small enough to grow.
-use Prim.Native.Nat.{◌+◌, ◌*◌, ◌≤◌}
+use Prim.Native.Nat.{◌+◌}
 use mathlib.Core.Path.{◌∙◌}
 use native.Mathlib.Omega.{arith}
-use lib.ListN.{length}
-use borrow.Author.Rules.{rules}
-use Rattle.slabs.specs.NodeEntry.{width}
-use Rattle.edits.specs.FreeSlots.{next_slot}
 use Rattle.edits.specs.Steps.{added}
 use Rattle.edits.proofs.TakeLaws.{next_inside}
 use Rattle.edits.proofs.CountLaws.{live_slots_le, live_ports_le}

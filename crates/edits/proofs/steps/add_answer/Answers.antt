@@ -1,6 +1,5 @@
 -- The tests come in the order of the codes, 3, 4, 5 and 6, and each one that was passed is false in the definition too.
-use borrow.Author.Tests.{lt-ltb, le-ltb, not-true, not-false}
-use borrow.Author.Rules.{rules}
+use borrow.Author.Tests.{lt-ltb, le-ltb}
 use Rattle.edits.specs.Steps.{add_answer}
 use Rattle.edits.proofs.steps.add_answer.Goals as goal
 

@@ -1,6 +1,5 @@
 -- No slab is needed for 0 ports, and for more `at_hand` decides.
 use borrow.Author.Tests.{eq-eqb, ne_eqb}
-use borrow.Author.Rules.{rules}
 use Rattle.edits.specs.Steps.{new_slab_at_hand}
 use Rattle.edits.proofs.steps.new_slab_at_hand.Goals as goal
 

@@ -1,10 +1,7 @@
 -- The slot is freed and, where the step has a slab, so is the slab: it lies inside the tables because the store fits.
 use mathlib.Core.Path.{◌∙◌}
 use native.Mathlib.Omega.{arith}
-use lib.ListN.{length}
 use borrow.Author.Tests.{eq-eqb, ne_eqb}
-use borrow.Author.Rules.{rules}
-use Rattle.edits.specs.Fit.{SlotFits}
 use Rattle.edits.specs.Steps.{removed, removed_links, removed_owners, removed_heads, removed_counters}
 use Rattle.edits.proofs.steps.remove.Goals as goal
 

@@ -4,7 +4,6 @@ use mathlib.Core.Path.{◌≡◌}
 use native.Mathlib.Omega.{arith}
 use lib.ListN.{length}
 use borrow.Author.Tests.{eq-eqb, ne_eqb}
-use borrow.Author.Rules.{rules}
 use Rattle.slabs.specs.Slab.{head_of, owners_written, filled}
 use Rattle.edits.specs.Steps.{new_slab_at_hand, new_first, new_links, new_heads, new_mark}
 use Rattle.edits.proofs.TakeLaws.{head_inside, taken_ends}

@@ -1,7 +1,6 @@
 -- The tests are those of the definition: the same slot, then two free ones.
 use mathlib.Core.Path.{sym, ◌∙◌}
 use borrow.Author.Tests.{eq-eqb, ne_eqb}
-use borrow.Author.Rules.{rules}
 use Rattle.edits.proofs.swap.stays_put.Goals as goal
 
 pub returns-then-a-b : goal.returns-then-a-b

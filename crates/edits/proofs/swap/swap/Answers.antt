@@ -3,7 +3,6 @@ use mathlib.Core.Path.{◌≡◌}
 use mathlib.Core.Bool.{true, false}
 use native.Mathlib.Omega.{arith}
 use lib.ListN.{length}
-use borrow.Author.Rules.{rules}
 use Rattle.edits.specs.Swap.{stays_put, swapped_slots, swapped_owners, swapped_counters}
 use Rattle.edits.proofs.swap.swap.Goals as goal
 

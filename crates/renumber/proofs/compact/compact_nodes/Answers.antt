@@ -1,7 +1,6 @@
 -- The live slots are packed, and what is left of them below the old mark is filled with 0.
 use Prim.Native.Nat.{ℕ, ◌-◌, ◌*◌}
 use native.Mathlib.Omega.{arith}
-use borrow.Author.Rules.{rules}
 use mathlib.Core.List.{List}
 use mathlib.Core.Path.{◌∙◌, ap}
 use Rattle.slabs.specs.NodeEntry.{width}

@@ -1,7 +1,6 @@
 -- The live ports are packed, steps without ports give up their slabs, and what is left of each table is filled with 0.
 use Prim.Native.Nat.{ℕ, ◌-◌}
 use native.Mathlib.Omega.{arith}
-use borrow.Author.Rules.{rules}
 use lib.ListN.{length}
 use mathlib.Core.List.{List}
 use mathlib.Core.Path.{sym, subst, ◌∙◌, ap}

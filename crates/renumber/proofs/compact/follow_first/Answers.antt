@@ -1,7 +1,6 @@
 -- The entry that is read decides as in the definition, and its counts are small since the slot fits.
 use native.Mathlib.Omega.{arith}
 use borrow.Author.Tests.{eq-eqb, ne_eqb}
-use borrow.Author.Rules.{rules}
 use mathlib.Core.Path.{◌≡◌, sym, ◌∙◌}
 use Rattle.slabs.specs.NodeEntry.{node_entry}
 use Rattle.slabs.specs.declared.node_entry.NodeEntry.TheVariants.{Free, Node}

@@ -1,9 +1,7 @@
-use Prim.Native.Nat.{ℕ, ◌-◌, ◌≤◌}
+use Prim.Native.Nat.{ℕ}
 use native.Mathlib.Omega.{arith}
 use native.Mathlib.Numerals.{add-one}
-use borrow.Author.Rules.{rules}
 use lib.ListN.{length}
-use mathlib.Core.Logic.{⊎_elim}
 use mathlib.Core.Path.{◌≡◌, refl, sym, subst, ◌∙◌, ap}
 use Rattle.slabs.specs.NodeEntry.{node_entry}
 use Rattle.slabs.specs.declared.node_entry.NodeEntry.TheVariants.{Node}
@@ -61,17 +59,17 @@ loop-k-preserved c =
       rw
           add-one
           (elim c.match-entry.branch [
-            in-Node w ↦
-              let after = nodes_live l.invariant.1 w.in-Node.meta (read ∙ w.in-Node.is) in
-              record {
-                counted = w.new-is ∙ after.counted;
-                slots_after = w.slots-is ∙ w.move_node.ensures.0 ∙ after.slots_after;
-                owners_after = w.owners-is ∙ w.move_node.ensures.1 ∙ after.owners_after;
-                log_after = w.log-is ∙ w.write_record.ensures ∙ ap (λ (to : LogPlace). set_record l.log to.at to.place (rec 4 l.k l.new)) w.past.ensures ∙ after.log_after;
-              }
+            | in-Node w ↦
+                let after = nodes_live l.invariant.1 w.in-Node.meta (read ∙ w.in-Node.is) in
+                record {
+                  counted = w.new-is ∙ after.counted;
+                  slots_after = w.slots-is ∙ w.move_node.ensures.0 ∙ after.slots_after;
+                  owners_after = w.owners-is ∙ w.move_node.ensures.1 ∙ after.owners_after;
+                  log_after = w.log-is ∙ w.write_record.ensures ∙ ap (λ (to : LogPlace). set_record l.log to.at to.place (rec 4 l.k l.new)) w.past.ensures ∙ after.log_after;
+                }
             | in_default w ↦
-              let after = nodes_free l.invariant.1 _ _ (read ∙ w.in_default.is) in
-              record { counted = w.new-is ∙ after.counted; slots_after = w.slots-is ∙ after.slots_after; owners_after = w.owners-is ∙ after.owners_after; log_after = w.log-is ∙ after.log_after }
+                let after = nodes_free l.invariant.1 _ _ (read ∙ w.in_default.is) in
+                record { counted = w.new-is ∙ after.counted; slots_after = w.slots-is ∙ after.slots_after; owners_after = w.owners-is ∙ after.owners_after; log_after = w.log-is ∙ after.log_after }
           ]),
     )
 

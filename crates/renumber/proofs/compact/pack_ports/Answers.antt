@@ -1,10 +1,8 @@
-use Prim.Native.Nat.{ℕ, ◌-◌, ◌≤◌}
+use Prim.Native.Nat.{ℕ}
 use native.Mathlib.Omega.{arith}
 use native.Mathlib.Numerals.{add-one}
-use borrow.Author.Rules.{rules}
 use lib.ListN.{get_or, set}
 use mathlib.Core.List.{List}
-use mathlib.Core.Logic.{⊎_elim}
 use mathlib.Core.Path.{◌≡◌, refl, sym, subst, ◌∙◌, ap}
 use Rattle.slabs.specs.NodeEntry.{node_entry}
 use Rattle.slabs.specs.PortEntry.{port_entry}
@@ -100,19 +98,19 @@ loop-p-preserved c =
       rw
           add-one
           (elim c.match-entry.branch [
-            in-Port w ↦
-              let named = port_named word w.in-Port.node w.in-Port.direction (read ∙ w.in-Port.is) in
-              let after = ports_live l.invariant.1 named.0 in
-              record {
-                counted = w.new-is ∙ after.counted;
-                slots_after = w.slots-is ∙ w.follow_first.ensures ∙ ap (λ (n : ℕ). followed l.slots n l.p l.new) (sym named.1) ∙ after.slots_after;
-                links_after = w.links-is ∙ w.move_port.ensures ∙ after.links_after;
-                owners_after = w.owners-is ∙ ap (λ (v : ℕ). set l.owners l.new v) (ports_word l.invariant.1) ∙ after.owners_after;
-                log_after = w.log-is ∙ w.write_record.ensures ∙ ap (λ (to : LogPlace). set_record l.log to.at to.place (rec 3 l.p l.new)) w.past.ensures ∙ after.log_after;
-              }
+            | in-Port w ↦
+                let named = port_named word w.in-Port.node w.in-Port.direction (read ∙ w.in-Port.is) in
+                let after = ports_live l.invariant.1 named.0 in
+                record {
+                  counted = w.new-is ∙ after.counted;
+                  slots_after = w.slots-is ∙ w.follow_first.ensures ∙ ap (λ (n : ℕ). followed l.slots n l.p l.new) (sym named.1) ∙ after.slots_after;
+                  links_after = w.links-is ∙ w.move_port.ensures ∙ after.links_after;
+                  owners_after = w.owners-is ∙ ap (λ (v : ℕ). set l.owners l.new v) (ports_word l.invariant.1) ∙ after.owners_after;
+                  log_after = w.log-is ∙ w.write_record.ensures ∙ ap (λ (to : LogPlace). set_record l.log to.at to.place (rec 3 l.p l.new)) w.past.ensures ∙ after.log_after;
+                }
             | in_default w ↦
-              let after = ports_free l.invariant.1 (port_none word (read ∙ w.in_default.is)) in
-              record { counted = w.new-is ∙ after.counted; slots_after = w.slots-is ∙ after.slots_after; links_after = w.links-is ∙ after.links_after; owners_after = w.owners-is ∙ after.owners_after; log_after = w.log-is ∙ after.log_after }
+                let after = ports_free l.invariant.1 (port_none word (read ∙ w.in_default.is)) in
+                record { counted = w.new-is ∙ after.counted; slots_after = w.slots-is ∙ after.slots_after; links_after = w.links-is ∙ after.links_after; owners_after = w.owners-is ∙ after.owners_after; log_after = w.log-is ∙ after.log_after }
           ]),
     )
 

@@ -1,7 +1,6 @@
 -- Four stores, each inside the log, write the four words of the record.
 use native.Mathlib.Omega.{arith}
 use native.Mathlib.Nat.{add-zero}
-use borrow.Author.Rules.{rules}
 use lib.ListN.{length-set}
 use Rattle.renumber.proofs.log.write_record.Goals as goal
 

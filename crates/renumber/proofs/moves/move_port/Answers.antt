@@ -1,7 +1,6 @@
 -- The words are stored in the order of the definition, and the partner's word is in the table since no link word leads outside.
 use native.Mathlib.Omega.{arith}
 use borrow.Author.Tests.{eq-eqb, ne_eqb}
-use borrow.Author.Rules.{rules}
 use lib.ListN.{length-set}
 use Rattle.renumber.specs.Moves.{carried, moved}
 use Rattle.renumber.proofs.moves.move_port.Goals as goal

@@ -1,14 +1,7 @@
 -- After i turns the words are those of i moves, which keep the table's length and stay inside.
-use Prim.Native.Nat.{ℕ, ◌+◌, ◌-◌, ◌≤◌}
-use native.Mathlib.Omega.{arith}
-use native.Mathlib.Numerals.{add-one}
-use borrow.Author.Rules.{rules}
-use lib.ListN.{length}
-use mathlib.Core.Path.{◌≡◌, refl, sym, subst, ◌∙◌, ap}
-use mathlib.Core.List.{List}
-use Rattle.slabs.specs.Links.{Inside}
-use Rattle.renumber.specs.Moves.{moved, turn, moved_run}
-use Rattle.renumber.proofs.MoveLaws.{turn_below, moved_run-length, moved_run_inside}
+use Prim.Native.Nat.{◌-◌, ◌≤◌}
+use mathlib.Core.Path.{◌≡◌}
+use Rattle.renumber.specs.Moves.{moved_run}
 use Rattle.renumber.proofs.moves.move_ports.Given as goal
 
 abbrev pub invariant-loop-i : goal.invariant-loop-i

@@ -1,6 +1,5 @@
 -- The branch on the port's link word is the definition's choice of a kind.
 use borrow.Author.Tests.{eq-eqb, ne_eqb}
-use borrow.Author.Rules.{rules}
 use Rattle.renumber.specs.Moves.{removed_record}
 use Rattle.renumber.proofs.moves.record_removed.Goals as goal
 

@@ -1,7 +1,6 @@
-use Prim.Native.Nat.{ℕ, ◌+◌, ◌-◌, ◌≤◌}
+use Prim.Native.Nat.{ℕ, ◌+◌}
 use native.Mathlib.Omega.{arith}
 use native.Mathlib.Numerals.{add-one}
-use borrow.Author.Rules.{rules}
 use lib.ListN.{length}
 use mathlib.Core.Path.{◌≡◌, refl, sym, subst, ◌∙◌, ap}
 use mathlib.Core.List.{List}
@@ -12,7 +11,6 @@ use Rattle.renumber.specs.Moves.{removed_record, removed_records}
 use Rattle.renumber.specs.Room.{CutPorts}
 use Rattle.renumber.specs.declared.log.LogPlace.{LogPlace}
 use Rattle.renumber.proofs.RecordLaws.{logged-length, logged_next}
-use Rattle.renumber.proofs.moves.remove_ports.Invariants.{Cut}
 use Rattle.renumber.proofs.moves.remove_ports.Goals as goal
 
 pub loop-i-init : goal.loop-i-init

@@ -1,18 +1,8 @@
 -- After i turns i ports are cut, each recorded just before its own cut.
-use Prim.Native.Nat.{ℕ, ◌+◌, ◌-◌, ◌≤◌}
-use native.Mathlib.Omega.{arith}
-use native.Mathlib.Numerals.{add-one}
-use borrow.Author.Rules.{rules}
-use lib.ListN.{length}
-use mathlib.Core.Path.{◌≡◌, refl, sym, subst, ◌∙◌, ap}
+use Prim.Native.Nat.{ℕ, ◌-◌, ◌≤◌}
 use mathlib.Core.List.{List}
-use Rattle.slabs.specs.Links.{Inside, cut_at, cut_run, wires_in}
-use Rattle.slabs.proofs.Shapes.{cut_run-length, cut_run_inside, wires_in_le, wired_at_le}
-use Rattle.renumber.specs.Records.{set_record, logged, listed}
-use Rattle.renumber.specs.Moves.{removed_record, removed_records}
 use Rattle.renumber.specs.Room.{CutPorts}
 use Rattle.renumber.specs.declared.log.LogPlace.{LogPlace}
-use Rattle.renumber.proofs.RecordLaws.{logged-length, logged_next}
 use Rattle.renumber.proofs.moves.remove_ports.Given as goal
 
 -- after i ports

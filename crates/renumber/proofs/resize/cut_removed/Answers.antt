@@ -2,7 +2,6 @@
 use Prim.Native.Nat.{◌+◌, ◌≤◌}
 use mathlib.Core.Path.{◌≡◌, ap}
 use native.Mathlib.Omega.{arith}
-use borrow.Author.Rules.{rules}
 use Rattle.slabs.proofs.Shapes.{cut_run-length, cut_run_inside, wires_in_le}
 use Rattle.renumber.specs.declared.log.LogPlace.{LogPlace}
 use Rattle.renumber.proofs.RecordLaws.{logged-length}

@@ -1,6 +1,5 @@
 -- A step of capacity 0 has no slab, and any other slab is freed by its call.
 use borrow.Author.Tests.{eq-eqb, ne_eqb}
-use borrow.Author.Rules.{rules}
 use Rattle.edits.specs.Steps.{removed_links, removed_owners, removed_heads}
 use Rattle.renumber.proofs.resize.free_old.Goals as goal
 

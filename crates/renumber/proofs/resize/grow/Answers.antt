@@ -1,6 +1,5 @@
 -- A size below n is doubled and another stays, as the definition says of each case.
 use borrow.Author.Tests.{lt-ltb, le-ltb}
-use borrow.Author.Rules.{rules}
 use Rattle.renumber.specs.Resize.{grown_once}
 use Rattle.renumber.proofs.resize.grow.Goals as goal
 

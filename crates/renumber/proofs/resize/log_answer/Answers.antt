@@ -1,6 +1,5 @@
 -- The test is the one of the definition, on the count of records that the change needs.
 use borrow.Author.Tests.{lt-ltb, le-ltb}
-use borrow.Author.Rules.{rules}
 use Rattle.renumber.specs.Resize.{log_answer}
 use Rattle.renumber.proofs.resize.log_answer.Goals as goal
 

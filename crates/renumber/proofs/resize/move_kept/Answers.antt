@@ -2,7 +2,6 @@
 use Prim.Native.Nat.{◌+◌}
 use mathlib.Core.Path.{◌≡◌, ap}
 use native.Mathlib.Omega.{arith}
-use borrow.Author.Rules.{rules}
 use Rattle.renumber.specs.declared.log.LogPlace.{LogPlace}
 use Rattle.renumber.proofs.RecordLaws.{logged-length}
 use Rattle.renumber.proofs.MoveLaws.{moved_run-length, moved_run_inside}

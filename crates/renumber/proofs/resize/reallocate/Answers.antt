@@ -1,6 +1,5 @@
 -- Each part does to the words what it says, and what it leaves is what the next one asks.
 use native.Mathlib.Omega.{arith}
-use borrow.Author.Rules.{rules}
 use Rattle.renumber.proofs.ResizeParts.{can_take, taken_holds, can_move_kept, can_free_old, reallocated_parts}
 use Rattle.renumber.proofs.resize.reallocate.Goals as goal
 

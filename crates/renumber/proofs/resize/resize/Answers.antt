@@ -1,7 +1,6 @@
 -- The removed ports are cut, and the kept ones are shifted or moved into a new slab: a store that fits, and what each part leaves, give what the next part asks.
 use mathlib.Core.Path.{sym, ◌∙◌, ap}
 use native.Mathlib.Omega.{arith}
-use borrow.Author.Rules.{rules}
 use Rattle.slabs.specs.declared.counters.Counters.{Counters}
 use Rattle.renumber.proofs.ResizeParts.{small_change, slot_inside, few_live, can_cut, can_shift, resized_in_place_lem, can_reallocate, resized_into_lem}
 use Rattle.renumber.proofs.resize.resize.Goals as goal

@@ -2,7 +2,6 @@
 use mathlib.Core.Path.{sym, ◌∙◌}
 use native.Mathlib.Omega.{arith}
 use borrow.Author.Tests.{lt-ltb, le-ltb}
-use borrow.Author.Rules.{rules}
 use Rattle.renumber.specs.Resize.{resize_answer}
 use Rattle.renumber.proofs.AnswerLaws.{node_at_live}
 use Rattle.renumber.proofs.resize.resize_answer.Goals as goal

@@ -1,6 +1,5 @@
 -- The kept outlets move as one run, the owner words are written over, and what is left of the old counts is filled with 0.
 use native.Mathlib.Omega.{arith}
-use borrow.Author.Rules.{rules}
 use Rattle.slabs.proofs.FillLaws.{written_length}
 use Rattle.renumber.specs.Resize.{in_place_owners}
 use Rattle.renumber.proofs.resize.shift.Goals as goal

@@ -1,8 +1,7 @@
-use Prim.Native.Nat.{ℕ, ◌-◌, ◌≤◌}
+use Prim.Native.Nat.{ℕ}
 use mathlib.Core.Path.{◌≡◌, refl, ◌∙◌, ap}
 use native.Mathlib.Omega.{arith}
 use native.Mathlib.Numerals.{add-one}
-use borrow.Author.Rules.{rules}
 use Rattle.renumber.specs.Resize.{grown_once, grown}
 use Rattle.renumber.proofs.ResizeLaws.{grown_small}
 use Rattle.renumber.proofs.resize.slab_size.Goals as goal

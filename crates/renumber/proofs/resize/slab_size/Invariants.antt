@@ -1,11 +1,7 @@
 -- After i turns the size is 1 grown i times, which 15 doublings keep below 65536.
-use Prim.Native.Nat.{ℕ, ◌-◌, ◌≤◌}
-use mathlib.Core.Path.{◌≡◌, refl, ◌∙◌, ap}
-use native.Mathlib.Omega.{arith}
-use native.Mathlib.Numerals.{add-one}
-use borrow.Author.Rules.{rules}
-use Rattle.renumber.specs.Resize.{grown_once, grown}
-use Rattle.renumber.proofs.ResizeLaws.{grown_small}
+use Prim.Native.Nat.{◌-◌, ◌≤◌}
+use mathlib.Core.Path.{◌≡◌}
+use Rattle.renumber.specs.Resize.{grown}
 use Rattle.renumber.proofs.resize.slab_size.Given as goal
 
 abbrev pub invariant-loop-i : goal.invariant-loop-i

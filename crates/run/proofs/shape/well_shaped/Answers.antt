@@ -2,7 +2,6 @@
 use native.Mathlib.Omega.{arith}
 use Rattle.run.specs.Run.{WholeUpTo}
 use Rattle.audit.proofs.DecideLaws.{decided_not, decides_from, failed, passed}
-use borrow.Author.Rules.{rules}
 use Rattle.run.proofs.shape.well_shaped.Goals as goal
 
 pub returns-then-not-whole : goal.returns-then-not-whole

@@ -1,13 +1,10 @@
-use Prim.Native.Nat.{ℕ, ◌+◌, ◌-◌, ◌≤◌}
+use Prim.Native.Nat.{ℕ, ◌+◌}
 use mathlib.Core.List.{List}
 use mathlib.Core.Path.{◌≡◌, refl, ◌∙◌, ap}
 use native.Mathlib.Omega.{arith}
 use native.Mathlib.Numerals.{add-one}
-use lib.ListN.{length}
-use borrow.Author.Rules.{rules}
 use Rattle.slabs.specs.Links.{cut_at, cut_run, wires_in}
 use Rattle.slabs.proofs.Shapes.{cut_run-length, cut_run_inside, wires_in_le, wired_at_le}
-use Rattle.slabs.proofs.links.cut_run.Invariants.{Cut}
 use Rattle.slabs.proofs.links.cut_run.Goals as goal
 
 pub loop-i-init : goal.loop-i-init

@@ -1,13 +1,8 @@
 -- After i turns the table and the count are those of i ports, and each turn is the definition's next step.
-use Prim.Native.Nat.{ℕ, ◌+◌, ◌-◌, ◌≤◌}
+use Prim.Native.Nat.{ℕ, ◌-◌, ◌≤◌}
 use mathlib.Core.List.{List}
-use mathlib.Core.Path.{◌≡◌, refl, ◌∙◌, ap}
-use native.Mathlib.Omega.{arith}
-use native.Mathlib.Numerals.{add-one}
-use lib.ListN.{length}
-use borrow.Author.Rules.{rules}
-use Rattle.slabs.specs.Links.{cut_at, cut_run, wires_in}
-use Rattle.slabs.proofs.Shapes.{cut_run-length, cut_run_inside, wires_in_le, wired_at_le}
+use mathlib.Core.Path.{◌≡◌}
+use Rattle.slabs.specs.Links.{cut_run, wires_in}
 use Rattle.slabs.proofs.links.cut_run.Given as goal
 
 -- after i ports

@@ -1,5 +1,4 @@
 -- The word is read once, and 0 and not 0 are the two cases of the definition.
-use borrow.Author.Rules.{rules}
 use borrow.Author.Tests.{eq-eqb, ne_eqb}
 use Rattle.slabs.specs.Links.{link_at}
 use Rattle.slabs.proofs.links.link_at.Goals as goal

@@ -1,7 +1,6 @@
 -- The words are read where the definition reads them, and the second, 0 or not, parts free from live.
 use native.Mathlib.Nat.{add-zero}
 use borrow.Author.Tests.{eq-eqb, ne_eqb}
-use borrow.Author.Rules.{rules}
 use Rattle.slabs.specs.NodeEntry.{node_entry}
 use Rattle.slabs.proofs.node_entry.read_slot.Goals as goal
 

@@ -1,7 +1,6 @@
 -- Each case of the entry writes the four words that the definition gives it.
 use mathlib.Core.Path.{ap}
 use native.Mathlib.Omega.{arith}
-use borrow.Author.Rules.{rules}
 use Rattle.slabs.specs.NodeEntry.{set_entry, inlets_of}
 use Rattle.slabs.proofs.node_entry.write_slot.Goals as goal
 

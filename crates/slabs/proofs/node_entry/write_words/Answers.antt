@@ -2,7 +2,6 @@
 use native.Mathlib.Omega.{arith}
 use native.Mathlib.Nat.{add-zero}
 use lib.ListN.{length-set}
-use borrow.Author.Rules.{rules}
 use Rattle.slabs.proofs.node_entry.write_words.Goals as goal
 
 pub bounds-slots-base-2 : goal.bounds-slots-base-2

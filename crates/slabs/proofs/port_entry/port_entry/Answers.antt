@@ -1,6 +1,5 @@
 -- The two tests of the code are those of the definition, so that each way ends in its case.
 use borrow.Author.Tests.{eq-eqb, ne_eqb, le-leb, lt-leb}
-use borrow.Author.Rules.{rules}
 use Rattle.slabs.specs.PortEntry.{port_entry, node_of, direction_of}
 use Rattle.slabs.proofs.port_entry.port_entry.Goals as goal
 

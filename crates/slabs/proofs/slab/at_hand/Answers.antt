@@ -1,6 +1,5 @@
 -- The head is 0 or not, as in the definition, and the sum of mark and size cannot wrap.
 use borrow.Author.Tests.{eq-eqb, ne_eqb}
-use borrow.Author.Rules.{rules}
 use Rattle.slabs.specs.Slab.{at_hand}
 use Rattle.slabs.proofs.slab.at_hand.Goals as goal
 

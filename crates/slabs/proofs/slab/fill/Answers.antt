@@ -1,9 +1,6 @@
-use Prim.Native.Nat.{◌-◌, ◌≤◌}
-use mathlib.Core.Path.{◌≡◌, refl, ◌∙◌, ap}
+use mathlib.Core.Path.{◌≡◌, refl}
 use native.Mathlib.Omega.{arith}
 use native.Mathlib.Numerals.{add-one}
-use lib.ListN.{length}
-use borrow.Author.Rules.{rules}
 use Rattle.slabs.specs.Slab.{filled}
 use Rattle.slabs.proofs.Shapes.{filled-length}
 use Rattle.slabs.proofs.slab.fill.Goals as goal

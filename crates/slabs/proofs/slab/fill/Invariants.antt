@@ -1,12 +1,7 @@
 -- After i turns i places hold the word, and each turn is the definition's next step.
 use Prim.Native.Nat.{◌-◌, ◌≤◌}
-use mathlib.Core.Path.{◌≡◌, refl, ◌∙◌, ap}
-use native.Mathlib.Omega.{arith}
-use native.Mathlib.Numerals.{add-one}
-use lib.ListN.{length}
-use borrow.Author.Rules.{rules}
+use mathlib.Core.Path.{◌≡◌}
 use Rattle.slabs.specs.Slab.{filled}
-use Rattle.slabs.proofs.Shapes.{filled-length}
 use Rattle.slabs.proofs.slab.fill.Given as goal
 
 abbrev pub invariant-loop-i : goal.invariant-loop-i

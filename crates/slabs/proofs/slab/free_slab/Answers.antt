@@ -1,6 +1,5 @@
 -- Cutting and filling give what they promise, and the two stores after them are the definition's.
 use mathlib.Core.Path.{refl}
-use borrow.Author.Rules.{rules}
 use Rattle.slabs.specs.Slab.{freed_links, freed_owners, freed_heads}
 use Rattle.slabs.proofs.slab.free_slab.Goals as goal
 

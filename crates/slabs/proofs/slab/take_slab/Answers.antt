@@ -2,7 +2,6 @@
 use native.Mathlib.Omega.{arith}
 use lib.ListN.{length}
 use borrow.Author.Tests.{eq-eqb, ne_eqb}
-use borrow.Author.Rules.{rules}
 use Rattle.slabs.specs.Slab.{taken_first, taken_mark, taken_links, taken_heads}
 use Rattle.slabs.proofs.SlabLaws.{at_hand_room}
 use Rattle.slabs.proofs.slab.take_slab.Goals as goal

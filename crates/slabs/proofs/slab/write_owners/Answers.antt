@@ -1,5 +1,4 @@
 -- Two fills, the second from where the first ends, each with the word that the definition names.
-use borrow.Author.Rules.{rules}
 use Rattle.slabs.specs.Slab.{owners_written}
 use Rattle.slabs.proofs.slab.write_owners.Goals as goal
 

@@ -1,5 +1,4 @@
 -- The two arms are the two ends from which a run can start.
-use borrow.Author.Rules.{rules}
 use Rattle.renumber.specs.Moves.{turn}
 use Rattle.renumber.proofs.moves.Run.turn.Goals as goal
 

@@ -1,6 +1,5 @@
 -- The two tests are those of the definition.
 use borrow.Author.Tests.{eq-eqb, ne_eqb}
-use borrow.Author.Rules.{rules}
 use Rattle.renumber.specs.Resize.{is_in_place}
 use Rattle.renumber.proofs.resize.Change.is_in_place.Goals as goal
 

@@ -1,6 +1,5 @@
 -- Each way needs as many records as the definition says.
 use mathlib.Core.Path.{sym, ◌∙◌}
-use borrow.Author.Rules.{rules}
 use Rattle.renumber.specs.Resize.{records_needed}
 use Rattle.renumber.specs.Resize.{records_needed}
 use Rattle.renumber.proofs.resize.Change.records.Goals as goal

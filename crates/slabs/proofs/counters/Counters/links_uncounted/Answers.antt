@@ -1,5 +1,4 @@
 -- One field is what `less` gives, and the others stay.
-use borrow.Author.Rules.{rules}
 use Rattle.slabs.proofs.counters.Counters.links_uncounted.Goals as goal
 
 pub returns : goal.returns

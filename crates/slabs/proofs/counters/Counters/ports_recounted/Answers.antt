@@ -1,5 +1,4 @@
 -- The sum stays below what is asked, since `less` gives no more than there was.
-use borrow.Author.Rules.{rules}
 use Rattle.slabs.proofs.counters.Counters.ports_recounted.Goals as goal
 
 pub returns : goal.returns

@@ -1,5 +1,4 @@
 -- Two fields are what `less` gives, and the others stay.
-use borrow.Author.Rules.{rules}
 use Rattle.slabs.proofs.counters.Counters.slab_freed.Goals as goal
 
 pub returns : goal.returns

@@ -1,0 +1,106 @@
+use Prim.Native.Nat.{ℕ, ◌+◌, ◌*◌, ◌≤◌, ◌<◌}
+use mathlib.Core.Path.{◌≡◌, refl, sym, ◌∙◌, ap}
+use mathlib.Core.List.{List, [], ◌∷◌, ◌++◌, append_assoc, append-nil}
+use native.Mathlib.Omega.{arith}
+use lib.ListN.{length, drop, length-append, length-drop, drop_of_length-le}
+use lib.Seq.{sets}
+use Rattle.calls.specs.declared.Call.{Call}
+use Rattle.text.specs.Lines.{NoLine, call_line, call_text, call_words}
+use Rattle.text.specs.Parts.{LineAt, Front, BadRead, CallsRead}
+use Rattle.text.proofs.LineLaws.{line_ahead}
+use Rattle.text.proofs.CallLaws.{words_of, text_snoc, words_snoc, small_snoc, words_length, sets_append, front_made}
+use Rattle.text.proofs.input.read_calls.Invariants.{Passed}
+use Rattle.text.proofs.input.read_calls.Goals as goal
+
+passed_none : (s words : List ℕ) → Passed s words words 0 0
+unfolding call_text call_words
+passed_none s words =
+    record { calls = []; says = refl; small = tt; counted = refl; few = omega arith; within = omega arith; wrote = refl }
+
+passed_more :
+    (s words₀ words words' : List ℕ) (at n : ℕ) (call : Call) (next : ℕ) →
+    n < 256 →
+    LineAt s at call next →
+    words' ≡ sets words (4 * n) (words_of call) →
+    Passed s words₀ words at n →
+    Passed s words₀ words' next (n + 1)
+passed_more s words₀ words words' at n call next h line e p =
+    record {
+      calls = p.calls ++ (call ∷ []);
+      says =
+          p.says
+          ∙ ap (λ (l : List ℕ). call_text p.calls ++ l) line.says
+          ∙ sym (append_assoc (call_text p.calls) (call_line call) (drop next s))
+          ∙ ap (λ (l : List ℕ). l ++ drop next s) (sym (text_snoc p.calls call));
+      small = small_snoc p.calls call p.small line.small;
+      counted = simp length-append (omega arith);
+      few = omega arith;
+      within = line.within;
+      wrote = e ∙ rw (p.wrote, place, sets_append words₀ (call_words p.calls) (words_of call) 0, words_snoc);
+    }
+  where
+    place : 4 * n ≡ 0 + length (call_words p.calls)
+    place = omega (arith, p.counted, words_length p.calls)
+
+module _ (s words₀ words : List ℕ) (at n : ℕ) (room : length words₀ ≡ 1024) (p : Passed s words₀ words at n) where
+  front : Front p.calls words₀ words
+  front = front_made p.calls words₀ words (omega (arith, words_length p.calls, p.counted, p.few)) p.wrote
+
+  bad_read : (line : ℕ) → line ≡ n + 1 → at < length s → (n < 256 → NoLine (drop at s)) → BadRead s words₀ words line
+  bad_read line e h f =
+      record {
+        bad =
+            record {
+              before = p.calls;
+              rest = drop at s;
+              says = p.says;
+              small = p.small;
+              counted = omega (arith, p.counted);
+              more = λ z. omega (arith, ap length z, length-drop at s);
+              bad = λ k. f (omega (arith, p.counted));
+              few = omega (arith, p.counted, p.few);
+            };
+        kept = front;
+      }
+
+  calls_read : length s ≤ at → CallsRead s words₀ words n
+  calls_read h =
+      record {
+        calls = p.calls;
+        good =
+            record {
+              says = p.says ∙ rw (drop_of_length-le s h) (append-nil (call_text p.calls));
+              small = p.small;
+              few = omega (arith, p.counted, p.few);
+            };
+        counted = p.counted;
+        kept = front;
+      }
+
+pub loop-at-init : goal.loop-at-init
+loop-at-init c = passed_none _ _
+
+pub returns-then-n-eq256 : goal.returns-then-n-eq256
+returns-then-n-eq256 c =
+    bad_read _ _ _ _ _ c.requires c.loop-at.invariant 257 (omega arith) (omega arith) (λ h. absurd (omega arith))
+
+pub returns-in_default : goal.returns-in_default
+returns-in_default c =
+    bad_read _ _ _ _ _ c.requires c.loop-at.invariant _ refl (omega arith) (λ h. rw c.in_default.is at c.read_line-line.ensures)
+
+pub write_call-requires : goal.write_call-requires
+write_call-requires c = omega arith
+
+pub loop-at-smaller : goal.loop-at-smaller
+loop-at-smaller c =
+    let l = c.loop-at in
+    let line : LineAt c.args.s.now l.at c.in-Good.call c.in-Good.next = rw c.in-Good.is at c.read_line-line.ensures in
+    omega (arith, line_ahead c.args.s.now l.at c.in-Good.call c.in-Good.next l.invariant.within line, line.within)
+
+pub loop-at-preserved : goal.loop-at-preserved
+loop-at-preserved c =
+    let l = c.loop-at in
+    passed_more _ _ _ _ _ _ c.in-Good.call c.in-Good.next (omega arith) (rw c.in-Good.is at c.read_line-line.ensures) c.write_call.ensures l.invariant
+
+pub returns : goal.returns
+returns c = calls_read _ _ _ _ _ c.requires c.loop-at.invariant c.loop-at-test.false
