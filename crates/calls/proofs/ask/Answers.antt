@@ -1,4 +1,5 @@
 -- The number of the call picks the question, as in the definition, and a number that no call has is answered so.
+use native.Mathlib.Omega.{arith}
 use borrow.Author.Tests.{ne_eqb}
 use Rattle.renumber.proofs.PackLaws.{fits_wider}
 use Rattle.calls.specs.Call.{question}
@@ -32,5 +33,6 @@ returns-in-13 c = rw c.in-13.is c.ask_counts.ensures
 pub returns-in_default : goal.returns-in_default
 unfolding question
 returns-in_default c =
-    let others = c.in_default.in_default-own.rest in
-    simp (ne_eqb _ _ others.0.0.0.0.1, ne_eqb _ _ others.0.0.0.1, ne_eqb _ _ others.0.0.1, ne_eqb _ _ others.0.1, ne_eqb _ _ others.1)
+    let n = c.args.call.n in
+    simp
+    (ne_eqb n 9 (λ e. omega arith), ne_eqb n 10 (λ e. omega arith), ne_eqb n 11 (λ e. omega arith), ne_eqb n 12 (λ e. omega arith), ne_eqb n 13 (λ e. omega arith))

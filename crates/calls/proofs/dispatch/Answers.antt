@@ -1,4 +1,5 @@
 -- `calls::dispatch` meets its contract: at each number the definition of all calls is that of the call which was made.
+use native.Mathlib.Omega.{arith}
 use mathlib.Core.Path.{◌∙◌}
 use Rattle.calls.proofs.BecameLaws.{became_same}
 use Rattle.calls.proofs.DispatchLaws.{became_as, number_0, number_1, number_2, number_3, number_4, number_5, number_6, number_7, number_8, number_rest}
@@ -64,8 +65,8 @@ returns-in-8 c = became_as (number_8 _ _ _ c.in-8.is) c.call_compact_ports.ensur
 pub returns-in_default : goal.returns-in_default
 returns-in_default c =
     let a = c.args in
-    let n = c.in_default.in_default-own.rest in
     became_as
-    (number_rest _ _ _ n.0.0.0.0.0.0.0.0.1 n.0.0.0.0.0.0.0.1 n.0.0.0.0.0.0.1 n.0.0.0.0.0.1 n.0.0.0.0.1 n.0.0.0.1 n.0.0.1 n.0.1 n.1)
+    (number_rest _ _ _
+    (λ e. omega arith) (λ e. omega arith) (λ e. omega arith) (λ e. omega arith) (λ e. omega arith) (λ e. omega arith) (λ e. omega arith) (λ e. omega arith) (λ e. omega arith))
     (became_same _ a.slots.now a.links.now a.owners.now a.heads.now a.log.now a.counters a.to _
     (record { answer_is = c.give.ensures.answer_is ∙ c.ask.ensures; counters_are = c.give.ensures.counters_are; to_is = c.give.ensures.to_is }))
