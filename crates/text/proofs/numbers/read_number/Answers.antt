@@ -1,11 +1,7 @@
 -- The run of digits at the place is a number's if any number stands there.
-use Prim.Native.Nat.{◌<◌}
-use mathlib.Core.Path.{◌≡◌}
-use lib.ListN.{get_or}
 use native.Mathlib.Omega.{arith}
 use Rattle.text.proofs.TextLaws.{run_numeral, no_run, long_run, zero_run, large_run, run_split}
 use Rattle.text.proofs.numbers.read_number.Goals as goal
-use Rattle.text.proofs.numbers.read_number.Goals.{then-n-gt1+else-s-at-eq48, else-n-gt1}
 
 pub returns-then-n-eq0 : goal.returns-then-n-eq0
 returns-then-n-eq0 c =
@@ -23,15 +19,7 @@ returns-then-s-at-eq48 c =
     zero_run a.s.now a.at _ c.count_digits-n.ensures (omega arith) (omega arith) c.if-s-at-eq48.true
 
 pub value-sum-requires : goal.value-sum-requires
-value-sum-requires c =
-    let a = c.args in
-    let d = c.count_digits-n in
-    let lead : 1 < d.result → get_or a.s.now a.at 0 ≡ 48 → ⊥
-    = λ h o. elim c.if-n-gt1.branch [
-      | then-n-gt1+else-s-at-eq48 w ↦ w.if-s-at-eq48.false o
-      | else-n-gt1 w ↦ omega arith
-    ] in
-    (d.ensures.within, run_numeral a.s.now a.at d.result d.ensures (omega arith) (omega arith) lead)
+value-sum-requires c = grind (arith, run_numeral)
 
 pub returns-then-sum-gt4294967295 : goal.returns-then-sum-gt4294967295
 returns-then-sum-gt4294967295 c =

@@ -84,10 +84,6 @@ overflow_sub-sum-in-loop-i c =
     let p = c.requires in
     (digit a.s.now a.at a.n p.0 p.1 c.loop-i.i (omega arith)).0
 
-pub overflow_cast-sum-in-loop-i : goal.overflow_cast-sum-in-loop-i
-overflow_cast-sum-in-loop-i c =
-    omega (arith, c.shared_slice_known-in-loop-i-1.given (c.args.at + c.loop-i.i))
-
 pub overflow_add-sum-in-loop-i : goal.overflow_add-sum-in-loop-i
 overflow_add-sum-in-loop-i c =
     let l = c.loop-i in
