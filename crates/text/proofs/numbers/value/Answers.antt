@@ -88,7 +88,7 @@ pub overflow_add-sum-in-loop-i : goal.overflow_add-sum-in-loop-i
 overflow_add-sum-in-loop-i c =
     let l = c.loop-i in
     let a = c.args in
-    omega (arith, small l.sum l.i 10 (omega arith) l.invariant.size, c.shared_slice_known-in-loop-i-1.given (a.at + l.i))
+    omega (arith, small l.sum l.i 10 (omega arith) l.invariant.size, c.type_inv.s (a.at + l.i))
 
 pub loop-i-preserved : goal.loop-i-preserved
 loop-i-preserved c =
