@@ -6,8 +6,24 @@ mod printing;
 mod runs;
 mod sessions;
 
+ghost use Rattle.std.specs.Prelude.{◌≡◌, ◌≤◌, length, min, IfOk, IfSome};
+
+use std::io::{self, Cursor, Read, Write};
+
+// Reads until the buffer is full or the input ends, and says how many bytes now stand at the buffer's start.
+fn read_full<R: Read + Drop>(input: R, buf: &mut [u8]) -> io::Result<usize>
+    ensures in_bounds { IfOk result (λ n. n ≤ length buf.new) }
+    ensures count { IfOk result (λ n. IfSome (R.remaining input) (λ xs. n ≡ min (length xs) (length buf.old))) }
+{
+    let room = buf.len();
+    let n = io::copy(&mut input.take(room as u64), &mut Cursor::new(buf))?;
+    Ok(room.min(n as usize))
+}
+
 // Reads the input, as far as there is room for it, and replays it in these tables.
-fn replay_input(
+fn replay_input<R: Read + Drop, W: Write>(
+    input: R,
+    output: &mut W,
     text: &mut [u8],
     slots: &mut [u32],
     links: &mut [u32],
@@ -15,14 +31,25 @@ fn replay_input(
     heads: &mut [u32],
     scratch: &mut [u32],
     log: &mut [u32],
-) {
-    let n = io::read_full(0, text);
-    sessions::replay(&text[..n], slots, links, owners, heads, scratch, log);
+) -> io::Result<()> {
+    let n = read_full(input, text)?;
+    sessions::replay(
+        output,
+        &text[..n],
+        slots,
+        links,
+        owners,
+        heads,
+        scratch,
+        log,
+    )
 }
 
 // Lends the tables as slices. `main` leaves that to this function, which has their lengths from their types: in `main`
 // they would be counted word by word, up to a million.
-fn lend(
+fn lend<R: Read + Drop, W: Write>(
+    input: R,
+    output: &mut W,
     text: &mut [u8; 1048576],
     slots: &mut [u32; 16384],
     links: &mut [u32; 65536],
@@ -30,12 +57,14 @@ fn lend(
     heads: &mut [u32; 32768],
     scratch: &mut [u32; 69632],
     log: &mut [u32; 262144],
-) {
-    replay_input(text, slots, links, owners, heads, scratch, log);
+) -> io::Result<()> {
+    replay_input(
+        input, output, text, slots, links, owners, heads, scratch, log,
+    )
 }
 
 // The largest room: 4,096 slots, 65,536 ports, 32,768 heads, 65,536 records, and an input of 1,048,576 bytes.
-fn main() {
+fn main(rt: HostRuntime) -> io::Result<()> {
     let mut text = [0u8; 1048576];
     let mut slots = [0u32; 16384];
     let mut links = [0u32; 65536];
@@ -44,6 +73,8 @@ fn main() {
     let mut scratch = [0u32; 69632];
     let mut log = [0u32; 262144];
     lend(
+        rt.stdin(),
+        &mut rt.stdout(),
         &mut text,
         &mut slots,
         &mut links,
@@ -51,5 +82,5 @@ fn main() {
         &mut heads,
         &mut scratch,
         &mut log,
-    );
+    )
 }

@@ -1,6 +1,9 @@
 // The transcript's lines: a letter and numbers, each after a tab.
 ghost use Rattle.std.specs.Prelude.{◌≤◌};
 
+use itoa::Buffer;
+use std::io::{self, Write};
+
 // Writes one byte where there is room, and says where the next goes. The longest line has 57 bytes.
 fn put(out: &mut [u8; 64], at: usize, byte: u8) -> usize
     ensures { result ≤ 64 }
@@ -30,22 +33,21 @@ fn put_all(out: &mut [u8; 64], from: usize, bytes: &[u8]) -> usize
 fn put_number(out: &mut [u8; 64], from: usize, x: u32) -> usize
     ensures { result ≤ 64 }
 {
-    let mut digits = [0u8; 20];
-    let n = io::decimal(x as u64, &mut digits);
+    let mut digits = Buffer::new();
     let at = put(out, from, b'\t');
-    put_all(out, at, &digits[..n])
+    put_all(out, at, digits.format(x).as_bytes())
 }
 
 // Prints the first n bytes of a line.
-fn print_part(out: &[u8; 64], n: usize)
+fn print_part<W: Write>(output: &mut W, out: &[u8; 64], n: usize) -> io::Result<()>
     requires { n ≤ 64 }
 {
     let line: &[u8] = out;
-    io::write_all(1, &line[..n]);
+    output.write_all(&line[..n])
 }
 
 // Prints a line. Five numbers have room.
-pub fn print_line(letter: u8, words: &[u32]) {
+pub fn print_line<W: Write>(output: &mut W, letter: u8, words: &[u32]) -> io::Result<()> {
     let mut out = [0u8; 64];
     let mut at = put(&mut out, 0, letter);
     let mut i: usize = 0;
@@ -54,5 +56,5 @@ pub fn print_line(letter: u8, words: &[u32]) {
         i += 1;
     }
     let end = put(&mut out, at, b'\n');
-    print_part(&out, end);
+    print_part(output, &out, end)
 }

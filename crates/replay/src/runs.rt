@@ -3,6 +3,7 @@ ghost use Rattle.std.specs.Prelude.{◌≤◌, ◌<◌, length};
 
 use crate::lines::Line;
 use crate::{lines, printing};
+use std::io::{self, Write};
 
 // What is done next: a run of the calls that have so many words, or, where they have none, what a line asks for. The
 // next step stands at `next`.
@@ -81,28 +82,35 @@ pub fn read_step(text: &[u8], at: usize, calls: &mut [u32; 1024]) -> Step
 }
 
 // Prints the records of one call: those that name its place.
-fn print_records(log: &[u32], place: u32) {
+fn print_records<W: Write>(output: &mut W, log: &[u32], place: u32) -> io::Result<()> {
     let mut at: usize = 0;
     while 4 <= log.len() - at {
         let next = at + 4;
         if log[at] == place {
-            printing::print_line(b'R', &log[at..next]);
+            printing::print_line(output, b'R', &log[at..next])?;
         }
         at = next;
     }
+    Ok(())
 }
 
 // Prints each call with its answer and its records. A run has 256 calls at the most.
-pub fn print_run(calls: &[u32], answers: &[u32; 1024], log: &[u32]) {
+pub fn print_run<W: Write>(
+    output: &mut W,
+    calls: &[u32],
+    answers: &[u32; 1024],
+    log: &[u32],
+) -> io::Result<()> {
     let mut place: u32 = 0;
     let mut at: usize = 0;
     while 4 <= calls.len() - at {
         if 1020 < at {
-            return;
+            return Ok(());
         }
         let next = at + 4;
-        printing::print_line(b'C', &calls[at..next]);
+        printing::print_line(output, b'C', &calls[at..next])?;
         printing::print_line(
+            output,
             b'A',
             &[
                 place,
@@ -111,9 +119,10 @@ pub fn print_run(calls: &[u32], answers: &[u32; 1024], log: &[u32]) {
                 answers[at + 2],
                 answers[at + 3],
             ],
-        );
-        print_records(log, place);
+        )?;
+        print_records(output, log, place)?;
         place += 1;
         at = next;
     }
+    Ok(())
 }

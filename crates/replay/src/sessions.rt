@@ -1,10 +1,11 @@
 // Sessions: an empty store of some room, and runs of calls over it.
-ghost use Rattle.io.specs.Counts.{IsPrefixLen};
+ghost use Rattle.std.specs.Prelude.{◌≡◌, ◌≤◌, length, take};
 
 use crate::lines::Line;
 use crate::{lines, printing, runs};
 use run::RunAnswer;
 use slabs::counters::Counters;
+use std::io::{self, Write};
 
 // The room that a session asks for, its next run's log included, and the counters of its store. Slots and records are
 // counted in words. There may be less room than that: a table is lent as far as it goes.
@@ -25,7 +26,8 @@ fn words_of(items: u32) -> usize {
 
 // How many words of a table are lent where n are asked for: all of them where it has fewer.
 fn room(n: usize, table: &[u32]) -> usize
-    ensures { IsPrefixLen result table.now }
+    ensures in_bounds { result ≤ length table.now }
+    ensures prefix { result ≡ length (take result table.now) }
 {
     if n < table.len() { n } else { table.len() }
 }
@@ -127,40 +129,47 @@ fn overwrite(
 }
 
 // A line that is no call: what it says is done, and the line is printed, unless it is to be skipped.
-fn change(
+fn change<W: Write>(
+    output: &mut W,
     session: Session,
     line: Line,
     slots: &mut [u32],
     links: &mut [u32],
     owners: &mut [u32],
     heads: &mut [u32],
-) -> Session {
+) -> io::Result<Session> {
     let letter = line.letter;
     let numbers = [line.a, line.b, line.c, line.d];
     let n = room(lines::numbers_of(letter), &numbers);
     if 0 < n {
-        printing::print_line(letter, &numbers[..n]);
+        printing::print_line(output, letter, &numbers[..n])?;
     }
-    match letter {
+    Ok(match letter {
         b'S' => begin(line, slots, links, owners, heads),
         b'N' => session.with_records(line.a),
         b'W' => overwrite(session, line, slots, links, owners, heads),
         _ => session,
-    }
+    })
 }
 
 // Prints what a run answered: its calls, or the code by which it was refused.
-fn print_answer(done: RunAnswer, calls: &[u32], answers: &[u32; 1024], log: &[u32]) {
+fn print_answer<W: Write>(
+    output: &mut W,
+    done: RunAnswer,
+    calls: &[u32],
+    answers: &[u32; 1024],
+    log: &[u32],
+) -> io::Result<()> {
     if done.code != 0 {
-        printing::print_line(b'Q', &[done.code]);
-        return;
+        return printing::print_line(output, b'Q', &[done.code]);
     }
     let written = room(words_of(done.records), log);
-    runs::print_run(calls, answers, &log[..written]);
+    runs::print_run(output, calls, answers, &log[..written])
 }
 
 // Makes a run of the calls in the first words, prints it, and gives the session after it.
-fn make_run(
+fn make_run<W: Write>(
+    output: &mut W,
     session: Session,
     calls: &[u32; 1024],
     words: usize,
@@ -170,7 +179,7 @@ fn make_run(
     heads: &mut [u32],
     scratch: &mut [u32],
     log: &mut [u32],
-) -> Session {
+) -> io::Result<Session> {
     let all: &[u32] = calls;
     let call_end = room(words, all);
     let asked = &all[..call_end];
@@ -192,13 +201,14 @@ fn make_run(
         &mut log[..log_end],
         session.counters,
     );
-    print_answer(done, asked, &answers, log);
-    session.with_counters(done.counters)
+    print_answer(output, done, asked, &answers, log)?;
+    Ok(session.with_counters(done.counters))
 }
 
 // Replays the sessions of a text in these tables, whose lengths are the largest room. Calls before the first S line
 // are a session in the room of the desk program.
-pub fn replay(
+pub fn replay<W: Write>(
+    output: &mut W,
     text: &[u8],
     slots: &mut [u32],
     links: &mut [u32],
@@ -206,7 +216,7 @@ pub fn replay(
     heads: &mut [u32],
     scratch: &mut [u32],
     log: &mut [u32],
-) {
+) -> io::Result<()> {
     let mut session = Session::empty(64, 512, 128, 512);
     let mut calls = [0u32; 1024];
     let mut at: usize = 0;
@@ -214,11 +224,12 @@ pub fn replay(
         let step = runs::read_step(text, at, &mut calls);
         if 0 < step.words {
             session = make_run(
-                session, &calls, step.words, slots, links, owners, heads, scratch, log,
-            );
+                output, session, &calls, step.words, slots, links, owners, heads, scratch, log,
+            )?;
         } else {
-            session = change(session, step.line, slots, links, owners, heads);
+            session = change(output, session, step.line, slots, links, owners, heads)?;
         }
         at = step.next;
     }
+    Ok(())
 }

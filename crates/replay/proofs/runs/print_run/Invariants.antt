@@ -1,0 +1,9 @@
+-- The calls are gone through, four words each.
+use Rattle.std.proofs.Common.{length, ◌-◌, ◌*◌, ◌≡◌, ◌≤◌}
+use Rattle.replay.proofs.runs.print_run.Given as goal
+
+abbrev pub invariant-loop-at : goal.invariant-loop-at
+invariant-loop-at g l = (l.at ≤ length l.calls) × (l.at ≡ 4 * l.place)
+
+abbrev pub decreases-loop-at : goal.decreases-loop-at
+decreases-loop-at g l = length l.calls - l.at
