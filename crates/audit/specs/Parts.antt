@@ -1,4 +1,4 @@
--- The facts that the parts of the audit decide. Together they are document 01's seven rules (the law `sound-parts`). While the slabs are gone
+-- The facts that the parts of the audit decide. Together they are document 01's seven rules (the law `sound_parts`). While the slabs are gone
 -- over, the scratch says of each port in how many of the slabs so far it lies.
 use Rattle.std.specs.Prelude.{ℕ, suc, zero, ◌+◌, ◌-◌, ◌*◌, ◌≤◌, ◌<◌, ◌≡◌, List, [], ◌∷◌, Bool, true, false, length, get_or}
 use Rattle.slabs.specs.Sums.{sum, sum_of}

@@ -1,5 +1,5 @@
 -- What the code of the calls needs of the words that it is lent, so that it stays inside the tables and no sum wraps. A sound store of
--- well-shaped tables has it (the law `sound-fit`).
+-- well-shaped tables has it (the law `sound_fit`).
 use Rattle.std.specs.Prelude.{ℕ, suc, ◌+◌, ◌*◌, ◌≤◌, ◌<◌, ◌≡◌, List, true, length, get_or}
 use Rattle.slabs.specs.PortEntry.{Live, node_of}
 use Rattle.slabs.specs.NodeEntry.{width, slot_word, node_entry}

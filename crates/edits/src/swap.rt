@@ -21,6 +21,7 @@ pub fn swap_answer(mark: u32, a: u32, b: u32) -> Answer
 }
 
 // An entry arrives at a slot: the owner words of a live one follow, and the neighbours or the head of a free one.
+#[tactic(auto, unfolding(crate::specs::Swap::arrived_slots, crate::specs::Swap::arrived_owners, crate::specs::Swap::arrived_counters))]
 fn arrive(
     slots: &mut [u32],
     owners: &mut [u32],

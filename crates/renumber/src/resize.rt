@@ -263,6 +263,7 @@ fn move_kept(links: &mut [u32], log: &mut [u32], to: LogPlace, change: Change, f
 }
 
 // Frees the old slab, where there is one.
+#[tactic(auto, unfolding(edits::specs::Steps::removed_links, edits::specs::Steps::removed_owners, edits::specs::Steps::removed_heads))]
 fn free_old(links: &mut [u32], owners: &mut [u32], heads: &mut [u32], meta: NodeMeta)
     requires { CanFreeOld links.old owners.old heads.old meta }
     ensures { FreedOld links.old owners.old heads.old meta links.new owners.new heads.new }

@@ -84,6 +84,7 @@ fn answer_calls(
 }
 
 // Answers a run of calls over the lent memory.
+#[tactic(auto, using(crate::proofs::RunLaws::ran_misshapen, crate::proofs::RunLaws::ran_shaped, crate::proofs::RunLaws::ran_unsound, crate::proofs::RunLaws::ran_sound, crate::proofs::RunLaws::ran_answered))]
 pub fn run(
     slots: &mut [u32],
     links: &mut [u32],

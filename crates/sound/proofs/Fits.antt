@@ -1,4 +1,4 @@
--- What a sound store of well-shaped tables gives to the code of the calls: it fits (`sound-fit`). Before it: whose slab a held port lies
+-- What a sound store of well-shaped tables gives to the code of the calls: it fits (`sound_fit`). Before it: whose slab a held port lies
 -- in, what its owner word says, and where slabs end.
 use Prim.Native.Nat.{ℕ, suc, ◌+◌, ◌-◌, ◌≤◌, ◌<◌}
 use mathlib.Core.Path.{◌≡◌, refl, ap}

@@ -1,4 +1,4 @@
--- `answer_words` says each answer by the number and the values of its arm, as `answer_words` does.
+-- `answer_words` says each answer by the number and the values of its arm, as its definition does.
 use Rattle.edits.proofs.answer.answer_words.Goals as goal
 
 pub returns-in-Done : goal.returns-in-Done

@@ -1,4 +1,4 @@
--- `next_slot` makes the choice of `next_slot` by the same test.
+-- `next_slot` makes the choice of its definition by the same test.
 use borrow.Author.Tests.{eq-eqb, ne_eqb}
 use Rattle.edits.specs.FreeSlots.{next_slot}
 use Rattle.edits.proofs.free_slots.next_slot.Goals as goal

@@ -1,4 +1,4 @@
--- `slot_at_hand` tests the head of the free chain, then the room above the node mark, as `slot_at_hand` does.
+-- `slot_at_hand` tests the head of the free chain, then the room above the node mark, as its definition does.
 use borrow.Author.Tests.{eq-eqb, ne_eqb}
 use Rattle.edits.specs.FreeSlots.{slot_at_hand}
 use Rattle.edits.proofs.free_slots.slot_at_hand.Goals as goal

@@ -1,4 +1,4 @@
--- `link_answer` goes by the owner word of each port, then by their directions, then by their link words, as `link_answer` does.
+-- `link_answer` goes by the owner word of each port, then by their directions, then by their link words, as its definition does.
 use borrow.Author.Tests.{eq-eqb, ne_eqb}
 use native.Mathlib.Omega.{arith}
 use mathlib.Core.Path.{◌∙◌, sym}

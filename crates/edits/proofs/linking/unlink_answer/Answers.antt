@@ -1,4 +1,4 @@
--- `unlink_answer` goes by the owner word of the port, then by its link word, as `unlink_answer` does.
+-- `unlink_answer` goes by the owner word of the port, then by its link word, as its definition does.
 use native.Mathlib.Omega.{arith}
 use mathlib.Core.Path.{◌∙◌, sym}
 use Rattle.edits.proofs.StoreLaws.{port_below}

@@ -1,4 +1,4 @@
--- `ask_link` goes by the owner word of the port, then by its link word, as `ask_link` does.
+-- `ask_link` goes by the owner word of the port, then by its link word, as its definition does.
 use native.Mathlib.Omega.{arith}
 use mathlib.Core.Path.{◌∙◌, sym}
 use Rattle.edits.proofs.StoreLaws.{port_below}

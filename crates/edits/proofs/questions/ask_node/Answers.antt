@@ -1,4 +1,4 @@
--- `ask_node` goes by the entry that `node_at` reads, as `ask_node` does.
+-- `ask_node` goes by the entry that `node_at` reads, as its definition does.
 use Rattle.edits.specs.Questions.{ask_node}
 use Rattle.edits.proofs.questions.ask_node.Goals as goal
 

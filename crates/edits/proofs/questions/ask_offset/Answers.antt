@@ -1,4 +1,4 @@
--- `ask_offset` goes by the direction and by what the slot says, as `ask_offset` does, and no sum wraps, since the step's ports lie inside the table.
+-- `ask_offset` goes by the direction and by what the slot says, as its definition does, and no sum wraps, since the step's ports lie inside the table.
 use borrow.Author.Tests.{eq-eqb, ne_eqb, lt-ltb, le-ltb}
 use native.Mathlib.Omega.{arith}
 use mathlib.Core.Path.{◌∙◌, sym}

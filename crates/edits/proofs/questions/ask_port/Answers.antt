@@ -1,4 +1,4 @@
--- `ask_port` goes by the owner word of the port, then by the slot that the word names, as `ask_port` does.
+-- `ask_port` goes by the owner word of the port, then by the slot that the word names, as its definition does.
 use borrow.Author.Tests.{eq-eqb, ne_eqb}
 use Rattle.edits.specs.Questions.{ask_port}
 use Rattle.edits.proofs.questions.ask_port.Goals as goal

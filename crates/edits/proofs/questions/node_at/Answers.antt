@@ -1,4 +1,4 @@
--- `node_at` reads the slot below the mark, and calls it free at or above the mark, as `node_at` does.
+-- `node_at` reads the slot below the mark, and calls it free at or above the mark, as its definition does.
 use borrow.Author.Tests.{lt-ltb, le-ltb}
 use Rattle.edits.specs.Store.{node_at}
 use Rattle.edits.proofs.questions.node_at.Goals as goal

@@ -1,4 +1,4 @@
--- `nth_port` makes the choice of `nth_port` by the same test.
+-- `nth_port` makes the choice of its definition by the same test.
 use borrow.Author.Tests.{lt-ltb, le-ltb}
 use Rattle.edits.proofs.questions.nth_port.Goals as goal
 

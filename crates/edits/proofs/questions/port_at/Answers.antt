@@ -1,4 +1,4 @@
--- `port_at` reads the owner word below the mark, and calls the port free at or above the mark, as `port_at` does.
+-- `port_at` reads the owner word below the mark, and calls the port free at or above the mark, as its definition does.
 use borrow.Author.Tests.{lt-ltb, le-ltb}
 use Rattle.edits.specs.Store.{port_at}
 use Rattle.edits.proofs.questions.port_at.Goals as goal
