@@ -6,23 +6,12 @@ mod printing;
 mod runs;
 mod sessions;
 
-ghost use Rattle.std.specs.Prelude.{◌≡◌, ◌≤◌, length, min, IfOk, IfSome};
-
-use std::io::{self, Cursor, Read, Write};
-
-// Reads until the buffer is full or the input ends, and says how many bytes now stand at the buffer's start.
-fn read_full<R: Read + Drop>(input: R, buf: &mut [u8]) -> io::Result<usize>
-    ensures in_bounds { IfOk result (λ n. n ≤ length buf.new) }
-    ensures count { IfOk result (λ n. IfSome (R.remaining input) (λ xs. n ≡ min (length xs) (length buf.old))) }
-{
-    let room = buf.len();
-    let n = io::copy(&mut input.take(room as u64), &mut Cursor::new(buf))?;
-    Ok(room.min(n as usize))
-}
+use input::read_full;
+use std::io::{self, Read, Write};
 
 // Reads the input, as far as there is room for it, and replays it in these tables.
-fn replay_input<R: Read + Drop, W: Write>(
-    input: R,
+fn replay_input<R: Read, W: Write>(
+    input: &mut R,
     output: &mut W,
     text: &mut [u8],
     slots: &mut [u32],
@@ -47,8 +36,8 @@ fn replay_input<R: Read + Drop, W: Write>(
 
 // Lends the tables as slices. `main` leaves that to this function, which has their lengths from their types: in `main`
 // they would be counted word by word, up to a million.
-fn lend<R: Read + Drop, W: Write>(
-    input: R,
+fn lend<R: Read, W: Write>(
+    input: &mut R,
     output: &mut W,
     text: &mut [u8; 1048576],
     slots: &mut [u32; 16384],
@@ -73,7 +62,7 @@ fn main(rt: HostRuntime) -> io::Result<()> {
     let mut scratch = [0u32; 69632];
     let mut log = [0u32; 262144];
     lend(
-        rt.stdin(),
+        &mut rt.stdin(),
         &mut rt.stdout(),
         &mut text,
         &mut slots,
