@@ -1,12 +1,17 @@
 // The transcript's lines: a letter and numbers, each after a tab.
-ghost use Rattle.std.specs.Prelude.{◌≤◌};
+ghost use Rattle.std.specs.Prelude.{◌+◌, ◌<◌, ◌≤◌, [], ◌∷◌, ◌++◌, length, take, OnOk};
+ghost use Rattle.std.specs.Io.KnownBytes.{Appends};
+ghost use Rattle.text.specs.Decimal.{decimal, fields};
+ghost use Rattle.text.specs.Lines.{newline};
+ghost use Rattle.text.specs.Parts.{Put};
 
 use itoa::Buffer;
 use std::io::{self, Write};
 
 // Writes one byte where there is room, and says where the next goes. The longest line has 57 bytes.
 fn put(out: &mut [u8; 64], at: usize, byte: u8) -> usize
-    ensures { result ≤ 64 }
+    ensures within { result ≤ 64 }
+    ensures put { at < 64 → Put (byte ∷ []) out.old at out.new result }
 {
     if at < 64 {
         out[at] = byte;
@@ -18,7 +23,8 @@ fn put(out: &mut [u8; 64], at: usize, byte: u8) -> usize
 // Writes bytes, one after the other.
 fn put_all(out: &mut [u8; 64], from: usize, bytes: &[u8]) -> usize
     requires { from ≤ 64 }
-    ensures { result ≤ 64 }
+    ensures within { result ≤ 64 }
+    ensures put { from + length bytes.now ≤ 64 → Put bytes.now out.old from out.new result }
 {
     let mut at = from;
     let mut i: usize = 0;
@@ -31,7 +37,8 @@ fn put_all(out: &mut [u8; 64], from: usize, bytes: &[u8]) -> usize
 
 // Writes a tab and a number.
 fn put_number(out: &mut [u8; 64], from: usize, x: u32) -> usize
-    ensures { result ≤ 64 }
+    ensures within { result ≤ 64 }
+    ensures put { from + 1 + length (decimal x) ≤ 64 → Put (9 ∷ decimal x) out.old from out.new result }
 {
     let mut digits = Buffer::new();
     let at = put(out, from, b'\t');
@@ -41,13 +48,16 @@ fn put_number(out: &mut [u8; 64], from: usize, x: u32) -> usize
 // Prints the first n bytes of a line.
 fn print_part<W: Write>(output: &mut W, out: &[u8; 64], n: usize) -> io::Result<()>
     requires { n ≤ 64 }
+    ensures { OnOk result (Appends (W.contents output.old) (W.contents output.new) (take n out.now)) }
 {
     let line: &[u8] = out;
     output.write_all(&line[..n])
 }
 
 // Prints a line. Five numbers have room.
-pub fn print_line<W: Write>(output: &mut W, letter: u8, words: &[u32]) -> io::Result<()> {
+pub fn print_line<W: Write>(output: &mut W, letter: u8, words: &[u32]) -> io::Result<()>
+    ensures { OnOk result (length words.now ≤ 5 → Appends (W.contents output.old) (W.contents output.new) ((letter ∷ fields words.now) ++ newline)) }
+{
     let mut out = [0u8; 64];
     let mut at = put(&mut out, 0, letter);
     let mut i: usize = 0;

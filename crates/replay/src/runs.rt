@@ -1,5 +1,8 @@
 // Runs: the calls that follow one another, and what is printed of them.
-ghost use Rattle.std.specs.Prelude.{◌≤◌, ◌<◌, length};
+ghost use Rattle.std.specs.Prelude.{◌≤◌, ◌<◌, ◌/◌, length, OnOk};
+ghost use Rattle.std.specs.Io.KnownBytes.{Appends};
+ghost use Rattle.text.specs.Lines.{record_lines};
+ghost use Rattle.replay.specs.Transcript.{transcript};
 
 use crate::lines::Line;
 use crate::{lines, printing};
@@ -82,7 +85,9 @@ pub fn read_step(text: &[u8], at: usize, calls: &mut [u32; 1024]) -> Step
 }
 
 // Prints the records of one call: those that name its place.
-fn print_records<W: Write>(output: &mut W, log: &[u32], place: u32) -> io::Result<()> {
+fn print_records<W: Write>(output: &mut W, log: &[u32], place: u32) -> io::Result<()>
+    ensures { OnOk result (Appends (W.contents output.old) (W.contents output.new) (record_lines log.now place (length log.now / 4))) }
+{
     let mut at: usize = 0;
     while 4 <= log.len() - at {
         let next = at + 4;
@@ -100,7 +105,9 @@ pub fn print_run<W: Write>(
     calls: &[u32],
     answers: &[u32; 1024],
     log: &[u32],
-) -> io::Result<()> {
+) -> io::Result<()>
+    ensures { OnOk result (length calls.now ≤ 1024 → Appends (W.contents output.old) (W.contents output.new) (transcript calls.now answers.now log.now (length calls.now / 4))) }
+{
     let mut place: u32 = 0;
     let mut at: usize = 0;
     while 4 <= calls.len() - at {

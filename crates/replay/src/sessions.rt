@@ -1,5 +1,7 @@
 // Sessions: an empty store of some room, and runs of calls over it.
-ghost use Rattle.std.specs.Prelude.{◌≡◌, ◌≤◌, length, take};
+ghost use Rattle.std.specs.Prelude.{◌≡◌, ◌≢◌, ◌*◌, ◌/◌, ◌≤◌, length, take, min, OnOk};
+ghost use Rattle.std.specs.Io.KnownBytes.{Appends};
+ghost use Rattle.replay.specs.Transcript.{transcript, refusal_line};
 
 use crate::lines::Line;
 use crate::{lines, printing, runs};
@@ -20,7 +22,9 @@ pub struct Session {
 }
 
 // The words of so many slots or records.
-fn words_of(items: u32) -> usize {
+fn words_of(items: u32) -> usize
+    ensures { result ≡ 4 * items }
+{
     4 * items as usize
 }
 
@@ -28,6 +32,7 @@ fn words_of(items: u32) -> usize {
 fn room(n: usize, table: &[u32]) -> usize
     ensures in_bounds { result ≤ length table.now }
     ensures prefix { result ≡ length (take result table.now) }
+    ensures value { result ≡ min n (length table.now) }
 {
     if n < table.len() { n } else { table.len() }
 }
@@ -159,7 +164,10 @@ fn print_answer<W: Write>(
     calls: &[u32],
     answers: &[u32; 1024],
     log: &[u32],
-) -> io::Result<()> {
+) -> io::Result<()>
+    ensures refused { OnOk result (done.code ≢ 0 → Appends (W.contents output.old) (W.contents output.new) (refusal_line done.code)) }
+    ensures answered { OnOk result (done.code ≡ 0 → length calls.now ≤ 1024 → Appends (W.contents output.old) (W.contents output.new) (transcript calls.now answers.now (take (4 * done.records) log.now) (length calls.now / 4))) }
+{
     if done.code != 0 {
         return printing::print_line(output, b'Q', &[done.code]);
     }

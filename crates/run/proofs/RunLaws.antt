@@ -60,39 +60,40 @@ module _ (m : Lent) (lengths : Lengths m) where
         let e : a.count ≡ lengths.count = count_one a.counted lengths.whole_calls in
         rw (zero, a.code, a.records, a.store_after, a.answers_after, a.log_after, e) (done lengths sound)
 
-module _ (slots links owners heads : List ℕ) (c : Counters) (scratch calls answers log : List ℕ) (shaped : Bool) where
-  -- Lengths that are broken refuse the run,
-  pub ran_misshapen : Decides shaped (Lengths (lent_of slots links owners heads c scratch calls answers log)) → shaped ≡ false
-      → Ran (lent_of slots links owners heads c scratch calls answers log) (lent_of slots links owners heads c scratch calls answers log) 20 0
-  ran_misshapen d e = misshapen (failed d e)
+-- The same, said of what the two tests answer and of the words that are lent.
+module _
+    (slots links owners heads : List ℕ)
+    (c : Counters)
+    (scratch calls answers log : List ℕ)
+    (shaped : Bool)
+    (tested : Decides shaped (Lengths (lent_of slots links owners heads c scratch calls answers log)))
+  where
+    -- Lengths that are broken refuse the run,
+    pub ran_misshapen : shaped ≡ false
+        → Ran (lent_of slots links owners heads c scratch calls answers log) (lent_of slots links owners heads c scratch calls answers log) 20 0
+    ran_misshapen broken = misshapen (failed tested broken)
 
-  -- and any others can be audited.
-  pub ran_shaped : Decides shaped (Lengths (lent_of slots links owners heads c scratch calls answers log)) → shaped ≡ true
-      → Shaped (store_of slots links owners heads c) × (length links ≤ length scratch)
-  ran_shaped d e =
-      let m : Lent = lent_of slots links owners heads c scratch calls answers log in
-      (lengths_shaped m (passed d e), lengths_scratch m (passed d e))
+    module _ (whole : shaped ≡ true) where
+      -- and any others can be audited.
+      pub ran_shaped : Shaped (store_of slots links owners heads c) × (length links ≤ length scratch)
+      ran_shaped =
+          let m : Lent = lent_of slots links owners heads c scratch calls answers log in
+          (lengths_shaped m (passed tested whole), lengths_scratch m (passed tested whole))
 
-  module _ (scratch' : List ℕ) (sound : Bool) where
-    -- A store that is not sound refuses the run,
-    pub ran_unsound : Decides shaped (Lengths (lent_of slots links owners heads c scratch calls answers log)) → shaped ≡ true
-        → Audited (store_of slots links owners heads c) scratch scratch' sound → sound ≡ false
-        → Ran (lent_of slots links owners heads c scratch calls answers log) (lent_of slots links owners heads c scratch' calls answers log) 21 0
-    ran_unsound d e a f =
-        audit_refused (lent_of slots links owners heads c scratch calls answers log) (passed d e) (failed a.verdict f) a.scratch_after
+      module _ (scratch' : List ℕ) (sound : Bool) (audited : Audited (store_of slots links owners heads c) scratch scratch' sound) where
+        -- A store that is not sound refuses the run,
+        pub ran_unsound : sound ≡ false
+            → Ran (lent_of slots links owners heads c scratch calls answers log) (lent_of slots links owners heads c scratch' calls answers log) 21 0
+        ran_unsound not =
+            audit_refused (lent_of slots links owners heads c scratch calls answers log) (passed tested whole) (failed audited.verdict not) audited.scratch_after
 
-    -- in a sound one the calls can be answered,
-    pub ran_sound : Decides shaped (Lengths (lent_of slots links owners heads c scratch calls answers log)) → shaped ≡ true
-        → Audited (store_of slots links owners heads c) scratch scratch' sound → sound ≡ true
-        → CanAnswer (store_of slots links owners heads c) calls answers log
-    ran_sound d e a f =
-        lengths_answer (lent_of slots links owners heads c scratch calls answers log) (passed d e) (passed a.verdict f)
+        -- in a sound one the calls can be answered,
+        pub ran_sound : sound ≡ true → CanAnswer (store_of slots links owners heads c) calls answers log
+        ran_sound is = lengths_answer (lent_of slots links owners heads c scratch calls answers log) (passed tested whole) (passed audited.verdict is)
 
-    -- and their answers are the run's.
-    pub ran_answered : (slots' links' owners' heads' answers' log' : List ℕ) (r : RunAnswer)
-        → Decides shaped (Lengths (lent_of slots links owners heads c scratch calls answers log)) → shaped ≡ true
-        → Audited (store_of slots links owners heads c) scratch scratch' sound → sound ≡ true
-        → Answered (store_of slots links owners heads c) calls answers log (store_of slots' links' owners' heads' r.counters) answers' log' r
-        → Ran (lent_of slots links owners heads c scratch calls answers log) (lent_of slots' links' owners' heads' r.counters scratch' calls answers' log') r.code r.records
-    ran_answered slots' links' owners' heads' answers' log' r d e a f z =
-        answered_ran (lent_of slots links owners heads c scratch calls answers log) (passed d e) (passed a.verdict f) a.scratch_after z
+        -- and their answers are the run's.
+        pub ran_answered : (slots' links' owners' heads' answers' log' : List ℕ) (r : RunAnswer) → sound ≡ true
+            → Answered (store_of slots links owners heads c) calls answers log (store_of slots' links' owners' heads' r.counters) answers' log' r
+            → Ran (lent_of slots links owners heads c scratch calls answers log) (lent_of slots' links' owners' heads' r.counters scratch' calls answers' log') r.code r.records
+        ran_answered slots' links' owners' heads' answers' log' r is said =
+            answered_ran (lent_of slots links owners heads c scratch calls answers log) (passed tested whole) (passed audited.verdict is) audited.scratch_after said

@@ -1,0 +1,2 @@
+-- What a transcript of sessions is.
+pub mod Transcript
