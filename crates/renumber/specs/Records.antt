@@ -6,7 +6,8 @@ use Rattle.renumber.specs.declared.log.LogPlace.{LogPlace}
 abbrev pub record_width : ℕ
 record_width = 4
 
--- Kinds: 1 removed, new 0; 2 removed, new is the old partner; 3 port moved; 4 node moved.
+-- A record's kind: 1 and 2 for a port that goes (under 1 the new number is 0, under 2 it is the partner that the port had), 3 for a port
+-- with a new number, 4 for a slot with one.
 pub record Rec : Type 0 where
   pub kind : ℕ
   pub old : ℕ

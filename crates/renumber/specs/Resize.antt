@@ -25,7 +25,7 @@ unfoldable pub grown : ℕ → ℕ → ℕ
 grown n zero = 1
 grown n (suc k) = grown_once n (grown n k)
 
--- the smallest power of two not below n, and 1 for 0. No total is over 2 to the 15th
+-- the least power of two that is n or more, and 1 for 0. No total is over 2 to the 15th
 abbrev pub slab_size : ℕ → ℕ
 slab_size n = grown n 15
 

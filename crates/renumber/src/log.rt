@@ -14,7 +14,7 @@ pub const PORT_MOVED: u32 = 3;
 
 pub const NODE_MOVED: u32 = 4;
 
-// Where the next record goes, counted in records, and the place of the call in the run.
+// Where the next record goes, counted in records, and at which place of its run the call stands.
 #[derive(Clone, Copy)]
 pub struct LogPlace {
     pub at: usize,

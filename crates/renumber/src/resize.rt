@@ -32,7 +32,7 @@ fn grow(size: u32, n: u32) -> u32
     if size < n { size * 2 } else { size }
 }
 
-// The smallest power of two not below n, and 1 for 0.
+// The least power of two that is n or more, and 1 for 0.
 pub fn slab_size(n: u32) -> u32
     requires { n ≤ 32768 }
     ensures { result ≡ slab_size n }

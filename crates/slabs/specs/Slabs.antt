@@ -34,7 +34,7 @@ pub record Slabs (links owners heads : List ℕ) (mark : ℕ) (held : ℕ → �
   -- the free slabs of each size are one chain that ends, from the head word of that size
   pub chains : ℕ → List ℕ
   pub chained : (i : ℕ) → i < length heads → Chain (λ p. get_or links p 0) (get_or heads i 0) (chains i)
-  -- below the mark every port lies in exactly one slab, held or free, and no slab reaches past the mark
+  -- a port below the mark is in one slab and in no second, held or free, and no slab goes beyond the mark
   pub once : (p : ℕ) → p < mark → held p + free_at chains (length heads) p ≡ 1
   pub within : (p : ℕ) → mark ≤ p → held p + free_at chains (length heads) p ≡ 0
   -- a port in no held slab has owner word 0, and link word 0 but where a free slab starts

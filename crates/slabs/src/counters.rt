@@ -1,4 +1,4 @@
-// The six counters. They go in by value and come back by value: each method hands the new record back.
+// The six counters. A method takes them as a value, and hands the changed ones back.
 ghost use Rattle.std.specs.Prelude.{◌≡◌, ◌+◌, ◌-◌, ◌<◌};
 ghost use Rattle.slabs.specs.Counters.{none_counted, link_counted, links_uncounted, slab_freed, mark_raised, node_mark_raised, free_slot_moved, node_counted, node_uncounted, ports_recounted, nodes_packed, ports_packed};
 

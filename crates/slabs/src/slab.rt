@@ -1,4 +1,5 @@
-// Slabs of ports: taken from the chain of their exact size, else from the port mark; freed to the head of their chain.
+// Slabs of ports: a slab comes from the chain of just its size if that has one, and from the port mark if not, and goes back to the front of
+// that chain.
 ghost use Rattle.std.specs.Prelude.{◌≡◌, ◌+◌, ◌≤◌, ◌<◌, length};
 ghost use Rattle.slabs.specs.Slab.{at_hand, CanTake, TookSlab, filled, owners_written, CanFree, FreedSlab};
 

@@ -1,4 +1,4 @@
--- Code 11 is given by no call from a sound store: the owner word of a live port names a live slot.
+-- No call answers 11 over a sound store: the slot that a live port's owner word names is live.
 use Prim.Native.Nat.{ℕ}
 use mathlib.Core.Path.{◌≡◌, refl, ap, sym, ◌∙◌}
 use mathlib.Core.List.{List}

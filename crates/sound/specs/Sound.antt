@@ -57,7 +57,8 @@ Backed previous before (k ∷ ks) = (previous k ≡ before) × Backed previous (
 unfoldable pub free_slots : Store → ℕ → ℕ
 free_slots s k = pick (ltb k s.counters.nodemark) (on_node (node_entry s.slots k) (λ m. 0) 1) 0
 
--- Rule 3: one doubly linked chain from the head, with each free slot on it once and no other.
+-- Rule 3: the free slots are linked there and back into a single chain that starts at the head; it meets each of them once, and nothing
+-- else.
 pub record FreeChain (s : Store) : Type 0 where
   pub chain : List ℕ
   pub forward : Chain (λ k. slot_word s.slots k 2) s.counters.freeslot chain
@@ -71,8 +72,8 @@ held_at slots mark p = sum (λ k. on_node (node_entry slots k) (λ m. in_slab m.
 abbrev pub held_in : Store → ℕ → ℕ
 held_in s p = held_at s.slots s.counters.nodemark p
 
--- Rule 4: below the port mark every port lies in exactly one slab, of a live slot or on the chain of its size; none reaches past the mark;
--- every chain ends.
+-- Rule 4: a port below the mark belongs to a single slab, which a live slot holds or which is free and on its size's chain; no slab goes
+-- beyond the mark, and each chain comes to an end.
 pub record Tiled (s : Store) : Type 0 where
   pub chains : ℕ → List ℕ
   pub chained : (i : ℕ) → i < length s.heads → Chain (λ p. get_or s.links p 0) (get_or s.heads i 0) (chains i)
@@ -90,12 +91,13 @@ pub record Owners (s : Store) : Type 0 where
   pub live : (k : ℕ) → k < s.counters.nodemark → (m : NodeMeta) → node_entry s.slots k ≡ Node m → Owned s.owners k m
   pub free : (p : ℕ) → held_in s p ≡ 0 → get_or s.owners p 0 ≡ 0
 
--- Rule 6: a nonzero link word of a live port names its mate; all others are 0, but where a free slab starts.
+-- Rule 6: where the link word of a held port is not 0 it names the port's mate; a port that is not held has link word 0, but for the first
+-- one of a free slab.
 pub record Links (s : Store) (chains : ℕ → List ℕ) : Type 0 where
   pub wiring : Wiring s.owners s.links (held_in s)
   pub loose : (p : ℕ) → held_in s p ≡ 0 → starts_at chains (length s.heads) p ≡ 0 → get_or s.links p 0 ≡ 0
 
--- Rule 7: the last three counters are true counts, and links counts pairs.
+-- Rule 7: nodes, ports and links say how many live slots, live ports and wires there are, a wire counting once.
 pub record Counted (s : Store) : Type 0 where
   pub nodes : s.counters.nodes ≡ live_slots s.slots s.counters.nodemark
   pub ports : s.counters.ports ≡ live_ports s.owners s.counters.portmark
