@@ -1,4 +1,4 @@
--- Clear, call 0 (document 01, under the table of the calls): every table word and every counter is 0.
+-- Clear, call 0 (document 01, under the table of the calls): nothing but zeros in the tables and in the counters.
 use Rattle.std.specs.Prelude.{length}
 use Rattle.slabs.specs.Counters.{none_counted}
 use Rattle.slabs.specs.Slab.{filled}

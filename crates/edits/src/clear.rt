@@ -1,4 +1,4 @@
-// Clear, call 0: every table word and every counter is 0.
+// Clear, call 0: nothing but zeros in the tables and in the counters.
 ghost use Rattle.edits.specs.Store.{store_of};
 ghost use Rattle.edits.specs.Clear.{cleared};
 ghost use Rattle.edits.specs.Fit.{StoreIs};

@@ -7,7 +7,7 @@ abbrev pub record_width : ℕ
 record_width = 4
 
 -- A record's kind: 1 and 2 for a port that goes (under 1 the new number is 0, under 2 it is the partner that the port had), 3 for a port
--- with a new number, 4 for a slot with one.
+-- that stays and 4 for a slot that does, each with its number after that, be it another or the same.
 pub record Rec : Type 0 where
   pub kind : ℕ
   pub old : ℕ

@@ -39,7 +39,7 @@ pub fields_more : (xs : List ℕ) (i : ℕ) → i < length xs → fields (take (
 fields_more xs i more =
     rw (add-one, take-suc xs i 0) (fields_append (take i xs) (get_or xs i 0 ∷ []) ∙ ap (λ (l : List ℕ). fields (take i xs) ++ l) (fields_one (get_or xs i 0)))
 
--- A field of a word has eleven bytes at most.
+-- So n fields of words have eleven bytes each at most.
 pub fields_short : (xs : List ℕ) (n : ℕ) → ((i : ℕ) → get_or xs i 0 < 2 ^ 32) → length (fields (take n xs)) ≤ 11 * n
 unfolding fields
 fields_short xs zero small = omega arith

@@ -1,2 +1,2 @@
--- What a transcript of sessions is.
+-- What is printed of a run, and of one that is refused.
 pub mod Transcript

@@ -1,4 +1,5 @@
--- The transcript of a run (oracle/README.md, "Transcripts"): each call, its answer and its records, in the desk's lines.
+-- The transcript of a run (oracle/README.md, "Transcripts"): each call, and its answer and records in the desk's lines. And the line of a
+-- refused run, which the oracle has not.
 use Rattle.std.specs.Prelude.{ℕ, suc, zero, ◌/◌, List, [], ◌∷◌, ◌++◌, length}
 use Rattle.text.specs.Decimal.{fields}
 use Rattle.text.specs.Lines.{newline, answer_line, record_lines}

@@ -23,7 +23,7 @@ pub record Shaped (s : Store) : Type 0 where
   pub some_heads : 1 ≤ length s.heads
   pub few_heads : length s.heads ≤ 32768
 
--- Rule 1: the marks are within room, and the words at or above them are 0.
+-- Rule 1: neither mark is beyond its table, and from the marks on every word is 0.
 pub record Marks (s : Store) : Type 0 where
   pub nodes_inside : width * s.counters.nodemark ≤ length s.slots
   pub ports_inside : s.counters.portmark ≤ length s.links
@@ -86,7 +86,7 @@ pub record Owned (owners : List ℕ) (k : ℕ) (m : NodeMeta) : Type 0 where
   pub outlets_owned : (i : ℕ) → i < m.outlets → get_or owners (m.first + m.inlets + i) 0 ≡ owner_word k 1
   pub spare_unowned : (i : ℕ) → m.inlets + m.outlets ≤ i → i < m.capacity → get_or owners (m.first + i) 0 ≡ 0
 
--- Rule 5: and free slabs have owner words 0.
+-- Rule 5 for all slabs: a port that no live slot holds has no owner.
 pub record Owners (s : Store) : Type 0 where
   pub live : (k : ℕ) → k < s.counters.nodemark → (m : NodeMeta) → node_entry s.slots k ≡ Node m → Owned s.owners k m
   pub free : (p : ℕ) → held_in s p ≡ 0 → get_or s.owners p 0 ≡ 0

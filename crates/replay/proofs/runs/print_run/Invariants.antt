@@ -1,4 +1,4 @@
--- After some whole calls the transcript of these is printed.
+-- After some whole calls the transcript of these is printed, where there are 256 at most.
 use Rattle.std.proofs.Common.{◌≡◌, ◌*◌, ◌-◌, ◌≤◌, length}
 use Rattle.std.specs.Io.KnownBytes.{Appends}
 use Rattle.replay.specs.Transcript.{transcript}
