@@ -2,7 +2,7 @@
 use Prim.Native.Nat.{ℕ, suc, ◌+◌, ◌≤◌, ◌<◌}
 use mathlib.Core.Path.{◌≡◌, refl, ap, ◌∙◌}
 use mathlib.Core.List.{List, [], ◌∷◌, ◌++◌, append_assoc, append-nil}
-use mathlib.Core.Bool.{true, false, true≢false, false≢true}
+use Rattle.std.specs.Prelude.{Some}
 use native.Mathlib.Numerals.{add-one}
 use native.Mathlib.Omega.{arith}
 use native.Mathlib.Decide.{ℕ_discrete}
@@ -15,7 +15,6 @@ use Rattle.slabs.specs.Slab.{filled}
 use Rattle.slabs.specs.Choice.{pick}
 use Rattle.slabs.specs.Slabs.{in_slab, free_at}
 use Rattle.slabs.proofs.SumLaws.{sum_ext, sum_of_append}
-use Rattle.audit.specs.declared.ports.Claimed.{Claimed}
 use Rattle.audit.specs.Parts.{RunIs, Tally, FreeSlab, FreeSlabs, AllFree, ChainClaimed}
 use Rattle.audit.proofs.ChainSound.{chain_unique}
 use Rattle.audit.proofs.TallyLaws.{sum_short, claimed_at, run_free, tally_more}
@@ -73,29 +72,22 @@ module _ (links owners scratch₀ : List ℕ) (mark head size : ℕ) (scratch : 
         }
 
     -- A slab that cannot be claimed does not hold, or has a port of another.
-    pub walked_stuck : (FreeSlab links owners mark first size → RunIs scratch first size 0 → ⊥) → {scratch' : List ℕ}
-        → ChainClaimed links owners scratch₀ mark head size scratch' (record { holds = false; ports = ports })
+    pub walked_stuck : (FreeSlab links owners mark first size → RunIs scratch first size 0 → ⊥)
+        → (firsts : List ℕ) → FreeSlabs links owners mark head size firsts
+        → ((p : ℕ) → get_or scratch₀ p 0 + sum_of (λ f. in_slab f size p) firsts ≤ 1) → ⊥
     unfolding sum_of
-    walked_stuck stuck = record { so = λ e. absurd (false≢true e); not_so = λ e. none }
-      where
-        none : (firsts : List ℕ) → FreeSlabs links owners mark head size firsts
-            → ((p : ℕ) → get_or scratch₀ p 0 + sum_of (λ f. in_slab f size p) firsts ≤ 1) → ⊥
-        none firsts f once =
-            let t = w.only firsts f in
-            let u = split t.0 t.2 in
-            stuck u.2
-            (run_free scratch first size
-            (λ p.
-            omega
-            (arith, w.claimed p, once p, sum_of_append (λ x. in_slab x size p) w.past (first ∷ u.0), ap (sum_of (λ x. in_slab x size p)) (t.1 ∙ ap (λ l. w.past ++ l) u.1))))
+    walked_stuck stuck firsts f once =
+        let t = w.only firsts f in
+        let u = split t.0 t.2 in
+        stuck u.2
+        (run_free scratch first size
+        (λ p.
+        omega
+        (arith, w.claimed p, once p, sum_of_append (λ x. in_slab x size p) w.past (first ∷ u.0), ap (sum_of (λ x. in_slab x size p)) (t.1 ∙ ap (λ l. w.past ++ l) u.1))))
 
   -- Where the walk ends, the whole chain is claimed.
-  pub walked_all : word ≡ 0 → ChainClaimed links owners scratch₀ mark head size scratch (record { holds = true; ports = ports })
-  walked_all e =
-      record {
-        so = λ b. (w.past, rw append-nil at (w.onward [] (record { chained = e; each = tt })), w.claimed, w.tally);
-        not_so = λ b. absurd (true≢false b);
-      }
+  pub walked_all : word ≡ 0 → ChainClaimed links owners scratch₀ mark head size scratch (Some ports)
+  walked_all e = (w.past, rw append-nil at (w.onward [] (record { chained = e; each = tt })), w.claimed, w.tally)
 
 -- In how many free slabs a port lies depends on the chains of the sizes that are counted,
 pub free_at_ext : (chains chains' : ℕ → List ℕ) (n p : ℕ) → ((i : ℕ) → i < n → chains i ≡ chains' i) → free_at chains n p ≡ free_at chains' n p
@@ -135,39 +127,42 @@ free_none links owners heads scratch mark ports t =
     record { chains = λ i. []; free = λ i l. absurd (omega arith); claimed = λ p. omega arith; tally = t }
 
 module _ (links owners heads scratch₀ : List ℕ) (mark : ℕ) (scratch : List ℕ) (ports i : ℕ)
-    (s : FreeSoFar links owners heads scratch₀ mark scratch ports i) {scratch' : List ℕ} {r : Claimed}
-    (one : ChainClaimed links owners scratch mark (get_or heads i 0) (i + 1) scratch' r) where
+    (s : FreeSoFar links owners heads scratch₀ mark scratch ports i) where
   -- A chain is claimed,
-  pub free_more : r.holds ≡ true → FreeSoFar links owners heads scratch₀ mark scratch' r.ports (i + 1)
-  free_more e =
+  pub free_more : (scratch' : List ℕ) (ports' : ℕ) → ChainClaimed links owners scratch mark (get_or heads i 0) (i + 1) scratch' (Some ports')
+      → FreeSoFar links owners heads scratch₀ mark scratch' ports' (i + 1)
+  free_more scratch' ports' (firsts, slabs, claimed, tally) =
       record {
         chains = chains;
         free = λ j l. all j l (ℕ_discrete j i);
-        claimed = λ p. rw add-one (omega (arith, s.claimed p, (one.so e).2 p, free_at_more chains i p, free_at_ext s.chains chains i p below, at p));
-        tally = (one.so e).3;
+        claimed = λ p. rw add-one (omega (arith, s.claimed p, claimed p, free_at_more chains i p, free_at_ext s.chains chains i p below, at p));
+        tally = tally;
       }
     where
       chains : ℕ → List ℕ
-      chains j = pick (eqb j i) (one.so e).0 (s.chains j)
+      chains j = pick (eqb j i) firsts (s.chains j)
 
-      here : chains i ≡ (one.so e).0
+      here : chains i ≡ firsts
       here = simp (eq-eqb i i refl)
 
       below : (j : ℕ) → j < i → s.chains j ≡ chains j
       below j l = simp (ne_eqb j i (omega arith))
 
       all : (j : ℕ) → j < i + 1 → Dec (j ≡ i) → FreeSlabs links owners mark (get_or heads j 0) (suc j) (chains j)
-      all j l (yes d) = rw d (rw here (rw add-one at (one.so e).1))
+      all j l (yes d) = rw d (rw here (rw add-one at slabs))
       all j l (no d) = rw (← below j (omega arith)) (s.free j (omega arith))
 
-      at : (p : ℕ) → sum_of (λ f. in_slab f (suc i) p) (chains i) ≡ sum_of (λ f. in_slab f (i + 1) p) (one.so e).0
+      at : (p : ℕ) → sum_of (λ f. in_slab f (suc i) p) (chains i) ≡ sum_of (λ f. in_slab f (i + 1) p) firsts
       at p = rw here (rw add-one)
 
   -- or cannot be.
-  pub free_stuck : (n : ℕ) → i < n → r.holds ≡ false → (chains : ℕ → List ℕ) → AllFree links owners heads mark n chains
+  pub free_stuck : (n : ℕ) → i < n
+      → ((firsts : List ℕ) → FreeSlabs links owners mark (get_or heads i 0) (i + 1) firsts
+      → ((p : ℕ) → get_or scratch p 0 + sum_of (λ f. in_slab f (i + 1) p) firsts ≤ 1) → ⊥)
+      → (chains : ℕ → List ℕ) → AllFree links owners heads mark n chains
       → ((p : ℕ) → get_or scratch₀ p 0 + free_at chains n p ≤ 1) → ⊥
-  free_stuck n l e chains all once =
-      one.not_so e (chains i) (rw add-one (all i l))
+  free_stuck n l stuck chains all once =
+      stuck (chains i) (rw add-one (all i l))
       (λ p.
       rw add-one
       (omega

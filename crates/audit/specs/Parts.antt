@@ -1,6 +1,6 @@
 -- The facts that the parts of the audit decide. Together they are document 01's seven rules (the law `sound_parts`). While the slabs are gone
 -- over, the scratch says of each port in how many of the slabs so far it lies.
-use Rattle.std.specs.Prelude.{ℕ, suc, zero, ◌+◌, ◌-◌, ◌*◌, ◌≤◌, ◌<◌, ◌≡◌, List, [], ◌∷◌, Bool, true, false, length, get_or}
+use Rattle.std.specs.Prelude.{ℕ, suc, zero, ◌+◌, ◌-◌, ◌*◌, ◌≤◌, ◌<◌, ◌≡◌, List, [], ◌∷◌, Bool, true, false, Option, MatchOption, length, get_or}
 use Rattle.slabs.specs.Sums.{sum, sum_of}
 use Rattle.slabs.specs.PortEntry.{Live}
 use Rattle.slabs.specs.NodeEntry.{width, slot_word, node_entry}
@@ -14,7 +14,6 @@ use Rattle.edits.specs.Store.{Store}
 use Rattle.edits.specs.Counts.{live_slots, live_ports}
 use Rattle.sound.specs.Sound.{Sound, SlotSays, held_at, Owned}
 use Rattle.audit.specs.Decides.{Decides}
-use Rattle.audit.specs.declared.ports.Claimed.{Claimed}
 
 -- every word from this place on is 0
 abbrev pub BlankFrom : List ℕ → ℕ → Type 0
@@ -94,10 +93,12 @@ pub record Tally (scratch : List ℕ) (mark ports : ℕ) : Type 0 where
 abbrev pub HeldSlabs : List ℕ → List ℕ → List ℕ → Counters → Type 0
 HeldSlabs slots links owners c = (k : ℕ) (m : NodeMeta) → k < c.nodemark → node_entry slots k ≡ Node m → HeldSlab links owners c.portmark k m
 
--- Over a scratch of zeros they are claimed, each port at most once; or not.
-pub record HeldClaimed (slots links owners scratch : List ℕ) (c : Counters) (scratch' : List ℕ) (r : Claimed) : Type 0 where
-  pub so : r.holds ≡ true → HeldSlabs slots links owners c × ((p : ℕ) → get_or scratch' p 0 ≡ held_at slots c.nodemark p) × Tally scratch' c.portmark r.ports
-  pub not_so : r.holds ≡ false → HeldSlabs slots links owners c → ((p : ℕ) → held_at slots c.nodemark p ≤ 1) → ⊥
+-- Over a scratch of zeros they are claimed, each port at most once, and so many ports; or not.
+abbrev pub HeldClaimed : List ℕ → List ℕ → List ℕ → List ℕ → Counters → List ℕ → Option ℕ → Type 0
+HeldClaimed slots links owners scratch c scratch' r =
+    MatchOption r
+    (HeldSlabs slots links owners c → ((p : ℕ) → held_at slots c.nodemark p ≤ 1) → ⊥)
+    (λ ports. HeldSlabs slots links owners c × ((p : ℕ) → get_or scratch' p 0 ≡ held_at slots c.nodemark p) × Tally scratch' c.portmark ports)
 
 -- what holds of each number of a list
 abbrev pub Each : (ℕ → Type 0) → List ℕ → Type 0
@@ -109,18 +110,23 @@ pub record FreeSlabs (links owners : List ℕ) (mark head size : ℕ) (firsts : 
   pub chained : Chain (λ p. get_or links p 0) head firsts
   pub each : Each (λ first. FreeSlab links owners mark first size) firsts
 
--- One chain is claimed, each port at most once; or not.
-pub record ChainClaimed (links owners scratch : List ℕ) (mark head size : ℕ) (scratch' : List ℕ) (r : Claimed) : Type 0 where
-  pub so : r.holds ≡ true → (firsts : List ℕ) × FreeSlabs links owners mark head size firsts × ((p : ℕ) → get_or scratch' p 0 ≡ get_or scratch p 0 + sum_of (λ first. in_slab first size p) firsts) × Tally scratch' mark r.ports
-  pub not_so : r.holds ≡ false → (firsts : List ℕ) → FreeSlabs links owners mark head size firsts → ((p : ℕ) → get_or scratch p 0 + sum_of (λ first. in_slab first size p) firsts ≤ 1) → ⊥
+-- One chain is claimed, each port at most once, and so many ports with those before; or not.
+abbrev pub ChainClaimed : List ℕ → List ℕ → List ℕ → ℕ → ℕ → ℕ → List ℕ → Option ℕ → Type 0
+ChainClaimed links owners scratch mark head size scratch' r =
+    MatchOption r
+    ((firsts : List ℕ) → FreeSlabs links owners mark head size firsts → ((p : ℕ) → get_or scratch p 0 + sum_of (λ first. in_slab first size p) firsts ≤ 1) → ⊥)
+    (λ ports. (firsts : List ℕ) × FreeSlabs links owners mark head size firsts × ((p : ℕ) → get_or scratch' p 0 ≡ get_or scratch p 0 + sum_of (λ first. in_slab first size p) firsts) × Tally scratch' mark ports)
 
--- All chains of the first n sizes are claimed, each port at most once; or not.
+-- what the chains of the first n sizes must be
 abbrev pub AllFree : List ℕ → List ℕ → List ℕ → ℕ → ℕ → (ℕ → List ℕ) → Type 0
 AllFree links owners heads mark n chains = (i : ℕ) → i < n → FreeSlabs links owners mark (get_or heads i 0) (suc i) (chains i)
 
-pub record FreeClaimed (links owners heads scratch : List ℕ) (mark n : ℕ) (scratch' : List ℕ) (r : Claimed) : Type 0 where
-  pub so : r.holds ≡ true → (chains : ℕ → List ℕ) × AllFree links owners heads mark n chains × ((p : ℕ) → get_or scratch' p 0 ≡ get_or scratch p 0 + free_at chains n p) × Tally scratch' mark r.ports
-  pub not_so : r.holds ≡ false → (chains : ℕ → List ℕ) → AllFree links owners heads mark n chains → ((p : ℕ) → get_or scratch p 0 + free_at chains n p ≤ 1) → ⊥
+-- They are claimed, each port at most once, and so many ports with those before; or not.
+abbrev pub FreeClaimed : List ℕ → List ℕ → List ℕ → List ℕ → ℕ → ℕ → List ℕ → Option ℕ → Type 0
+FreeClaimed links owners heads scratch mark n scratch' r =
+    MatchOption r
+    ((chains : ℕ → List ℕ) → AllFree links owners heads mark n chains → ((p : ℕ) → get_or scratch p 0 + free_at chains n p ≤ 1) → ⊥)
+    (λ ports. (chains : ℕ → List ℕ) × AllFree links owners heads mark n chains × ((p : ℕ) → get_or scratch' p 0 ≡ get_or scratch p 0 + free_at chains n p) × Tally scratch' mark ports)
 
 -- rules 4 and 5, and rule 6 for ports that are not live
 pub record TiledHolds (slots links owners heads : List ℕ) (c : Counters) : Type 0 where

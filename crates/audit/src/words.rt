@@ -7,14 +7,7 @@ ghost use Rattle.audit.specs.Parts.{BlankFrom, RunIs, Claim};
 pub fn blank_from(table: &[u32], from: usize) -> bool
     ensures { Decides result (BlankFrom table.now from) }
 {
-    let mut i = from;
-    while i < table.len() {
-        if table[i] != 0 {
-            return false;
-        }
-        i += 1;
-    }
-    true
+    table[from.min(table.len())..].iter().all(|word| *word == 0)
 }
 
 // Whether n words from `first` on are this word.
@@ -22,14 +15,7 @@ pub fn run_is(table: &[u32], first: usize, n: usize, word: u32) -> bool
     requires { first + n ≤ length table.now }
     ensures { Decides result (RunIs table.now first n word) }
 {
-    let mut i: usize = 0;
-    while i < n {
-        if table[first + i] != word {
-            return false;
-        }
-        i += 1;
-    }
-    true
+    table[first..first + n].iter().all(|held| *held == word)
 }
 
 // Takes n places from `first` on: each must be 0 and becomes 1.
@@ -37,13 +23,11 @@ pub fn claim(scratch: &mut [u32], first: usize, n: usize) -> bool
     requires { first + n ≤ length scratch.old }
     ensures { Claim scratch.old first n scratch.new result }
 {
-    let mut i: usize = 0;
-    while i < n {
-        if scratch[first + i] != 0 {
+    for place in &mut scratch[first..first + n] {
+        if *place != 0 {
             return false;
         }
-        scratch[first + i] = 1;
-        i += 1;
+        *place = 1;
     }
     true
 }

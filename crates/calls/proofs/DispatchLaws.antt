@@ -1,21 +1,11 @@
 -- Which definition a call's number picks.
 use Prim.Native.Nat.{ℕ}
-use mathlib.Core.Path.{◌≡◌, sym, subst}
-use mathlib.Core.List.{List, []}
+use mathlib.Core.Path.{◌≡◌}
+use mathlib.Core.List.{[]}
 use borrow.Author.Tests.{ne_eqb}
 use Rattle.edits.specs.Store.{Store}
-use Rattle.renumber.specs.declared.log.LogPlace.{LogPlace}
-use Rattle.calls.specs.Call.{After, Became, clear_call, add_call, remove_call, resize_call, link_call, unlink_call, swap_call, compact_nodes_call, compact_ports_call, question, call_of}
+use Rattle.calls.specs.Call.{clear_call, add_call, remove_call, resize_call, link_call, unlink_call, swap_call, compact_nodes_call, compact_ports_call, question, call_of}
 use Rattle.calls.specs.declared.Call.{Call}
-use Rattle.calls.specs.declared.Outcome.{Outcome}
-
--- What is left by one definition is left by another that is equal to it.
-pub became_as : {after after' : After} {log : List ℕ} {to : LogPlace} {slots links owners heads log' : List ℕ} {r : Outcome}
-    → after ≡ after'
-    → Became after' log to slots links owners heads log' r
-    → Became after log to slots links owners heads log' r
-became_as {log = log} {to = to} {slots = slots} {links = links} {owners = owners} {heads = heads} {log' = log'} {r = r} e b =
-    subst (λ (x : After). Became x log to slots links owners heads log' r) (sym e) b
 
 module _ (s : Store) (left : ℕ) (call : Call) where
   pub number_0 : call.n ≡ 0 → call_of s left call ≡ clear_call s

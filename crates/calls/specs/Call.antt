@@ -1,26 +1,29 @@
 -- A call's four words to its answer (document 01, "The calls"): the answer, the store after it, and its records. A refused call leaves
 -- the store as it was, and has no records.
-use Rattle.std.specs.Prelude.{ℕ, ◌+◌, ◌-◌, ◌/◌, ◌≤◌, ◌<◌, ◌≡◌, List, [], false, length, eqb}
+use Rattle.std.specs.Prelude.{ℕ, ◌+◌, ◌-◌, ◌/◌, ◌≡◌, List, [], length, eqb}
 use Rattle.slabs.specs.Choice.{pick}
-use Rattle.slabs.specs.NodeEntry.{node_entry}
 use Rattle.slabs.specs.Links.{cut_at, wired_at}
 use Rattle.slabs.specs.Counters.{link_counted, links_uncounted}
 use Rattle.slabs.specs.declared.counters.Counters.{Counters}
-use Rattle.slabs.specs.declared.node_entry.NodeEntry.TheVariants.{Node}
 use Rattle.edits.specs.Store.{Store, node_at, on_node}
 use Rattle.edits.specs.Answer.{is_done}
 use Rattle.edits.specs.Questions.{ask_node, ask_port, ask_offset, ask_link, ask_counts}
 use Rattle.edits.specs.Linking.{link_answer, joined, unlink_answer}
-use Rattle.edits.specs.Steps.{most, add_answer, added, remove_answer, removed}
+use Rattle.edits.specs.Steps.{add_answer, added, remove_answer, removed}
 use Rattle.renumber.specs.Records.{Rec, logged, record_width}
-use Rattle.renumber.specs.Resize.{resize_answer, change_answer, is_idle, resized, resize_records}
+use Rattle.renumber.specs.Resize.{resize_answer, is_idle, resized, resize_records}
 use Rattle.renumber.specs.Compact.{compact_answer, nodes_compacted, node_records, ports_compacted, port_records}
 use Rattle.edits.specs.Clear.{cleared}
 use Rattle.edits.specs.Swap.{swap_answer, swapped}
-use Rattle.edits.specs.declared.answer.Answer.{Answer}
-use Rattle.edits.specs.declared.answer.Answer.TheVariants.{Done, NoSuchCall}
+use Rattle.edits.specs.Answer.{Answer}
+use Rattle.edits.specs.declared.answer.Refusal.TheVariants.{NoSuchCall}
+use Rattle.edits.specs.declared.answer.Refusal.{Refusal}
+use Rattle.edits.specs.Answer.{done}
+use Rattle.std.specs.Prelude.{Result, Ok, Err}
 use Rattle.calls.specs.declared.Call.{Call}
 use Rattle.calls.specs.declared.Outcome.{Outcome}
+use Rattle.calls.specs.declared.Done.{Done}
+use Rattle.edits.specs.declared.store.Tables.{Tables}
 use Rattle.renumber.specs.declared.log.LogPlace.{LogPlace}
 use Rattle.renumber.specs.declared.resize.Change.{Change}
 
@@ -34,7 +37,7 @@ unfoldable pub decided : Answer → Store → Store → List Rec → After
 decided answer before after records = pick (is_done answer) (record { answer = answer; store = after; records = records }) (record { answer = answer; store = before; records = [] })
 
 abbrev pub clear_call : Store → After
-clear_call s = record { answer = Done 0 0 0; store = cleared s; records = [] }
+clear_call s = record { answer = done 0 0 0; store = cleared s; records = [] }
 
 unfoldable pub add_call : Store → ℕ → ℕ → After
 add_call s inlets outlets = decided (add_answer s.slots (length s.links) s.heads s.counters inlets outlets) s (added s inlets outlets) []
@@ -46,15 +49,6 @@ remove_call s node =
 -- a resize of a live step to the counts that it has changes nothing
 unfoldable pub change_call : Store → Change → Answer → After
 change_call s ch answer = pick (is_idle ch) (decided answer s s []) (decided answer s (resized s ch) (resize_records s ch))
-
--- the change is of a live step, its counts differ, and this is its answer
-pub record CanDecide (s : Store) (log : List ℕ) (to : LogPlace) (ch : Change) (answer : Answer) : Type 0 where
-  pub below : ch.node < s.counters.nodemark
-  pub is : node_entry s.slots ch.node ≡ Node ch.meta
-  pub few_inlets : ch.inlets ≤ most
-  pub few_outlets : ch.outlets ≤ most
-  pub changes : is_idle ch ≡ false
-  pub says : answer ≡ change_answer (length s.links) s.heads s.counters.portmark (length log / record_width - to.at) ch
 
 unfoldable pub resize_call : Store → ℕ → ℕ → ℕ → ℕ → After
 resize_call s left node inlets outlets =
@@ -95,7 +89,7 @@ question s call =
     (pick (eqb call.n 10) (ask_port s.slots s.owners s.counters call.a)
     (pick (eqb call.n 11) (ask_offset s.slots s.counters.nodemark call.a call.b call.c)
     (pick (eqb call.n 12) (ask_link s.owners s.links s.counters.portmark call.a)
-    (pick (eqb call.n 13) (ask_counts s.counters) NoSuchCall))))
+    (pick (eqb call.n 13) (ask_counts s.counters) (Err NoSuchCall)))))
 
 -- a call where so many records remain in the run's log
 unfoldable pub call_of : Store → ℕ → Call → After
@@ -127,8 +121,42 @@ pub record Became (after : After) (log : List ℕ) (to : LogPlace) (slots links 
   pub heads_after : heads ≡ after.store.heads
   pub log_after : log' ≡ logged log to.at to.place after.records
 
--- What a call hands back: its answer, the counters, and the place of the next record.
-pub record Given (r : Outcome) (answer : Answer) (c : Counters) (to : LogPlace) : Type 0 where
-  pub answer_is : r.answer ≡ answer
-  pub counters_are : r.counters ≡ c
-  pub to_is : r.to ≡ to
+-- the same of tables that are lent together
+abbrev pub BecameIn : After → List ℕ → LogPlace → Tables → List ℕ → Outcome → Type 0
+BecameIn after log to t log' r = Became after log to t.slots.now t.links.now t.owners.now t.heads.now log' r
+
+-- What the part of one call hands back: the answer,
+abbrev pub answer_of : Result Done Refusal → Answer
+answer_of (Ok d) = Ok d.values
+answer_of (Err refusal) = Err refusal
+
+-- the counters, which a refusal leaves,
+abbrev pub counters_of : Result Done Refusal → Counters → Counters
+counters_of (Ok d) c = d.counters
+counters_of (Err refusal) c = c
+
+-- and how many records it has written.
+abbrev pub records_of : Result Done Refusal → ℕ
+records_of (Ok d) = d.records
+records_of (Err refusal) = 0
+
+-- What it leaves in the tables, where c were the counters.
+pub record Left (after : After) (c : Counters) (slots links owners heads : List ℕ) (r : Result Done Refusal) : Type 0 where
+  pub answer : answer_of r ≡ after.answer
+  pub counters : counters_of r c ≡ after.store.counters
+  pub recorded : records_of r ≡ length after.records
+  pub slots_after : slots ≡ after.store.slots
+  pub links_after : links ≡ after.store.links
+  pub owners_after : owners ≡ after.store.owners
+  pub heads_after : heads ≡ after.store.heads
+
+abbrev pub LeftIn : After → Counters → Tables → Result Done Refusal → Type 0
+LeftIn after c t r = Left after c t.slots.now t.links.now t.owners.now t.heads.now r
+
+-- what a question hands back
+abbrev pub asked : Counters → Answer → Result Done Refusal
+asked c (Ok values) = Ok (record { values = values; counters = c; records = 0 })
+asked c (Err refusal) = Err refusal
+
+abbrev pub question_call : Store → Call → Result Done Refusal
+question_call s call = asked s.counters (question s call)

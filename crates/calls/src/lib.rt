@@ -1,23 +1,24 @@
-// The dispatch: a call's four words to its answer. Every call is lent the whole memory, and leaves what its definition says.
+// The dispatch: a call's four words to its answer. Every call leaves the lent memory as its definition says.
 #![tactic(auto)]
 
 ghost use Rattle.std.specs.Prelude.{◌≡◌};
-ghost use Rattle.edits.specs.Store.{store_of};
+ghost use Rattle.edits.specs.Store.{store_in, store_seen, SameMemory};
 ghost use Rattle.edits.specs.Fit.{Fit};
+ghost use Rattle.renumber.specs.Records.{logged};
 ghost use Rattle.renumber.specs.Room.{LogFits};
-ghost use Rattle.calls.specs.Call.{remaining, Became, Given, clear_call, add_call, remove_call, change_call, CanDecide, resize_call, link_call, unlink_call, swap_call, compact_nodes_call, compact_ports_call, question, call_of};
+ghost use Rattle.calls.specs.Call.{remaining, BecameIn, LeftIn, clear_call, add_call, remove_call, resize_call, link_call, unlink_call, swap_call, compact_nodes_call, compact_ports_call, question, question_call, call_of};
 
-use edits::answer::{Answer, is_done};
-use edits::questions::node_at;
+use edits::answer::{Answer, Refusal};
+use edits::questions::live_node;
+use edits::store::{Tables, View};
 use edits::{clear, linking, questions, steps, swap};
 use renumber::log::LogPlace;
 use renumber::resize::Change;
 use renumber::{compact, resize};
 use slabs::counters::Counters;
-use slabs::node_entry::NodeEntry;
 
 // A call: its number and three words.
-#[derive(Clone, Copy)]
+#[derive(Clone, Copy, PartialEq, Eq)]
 pub struct Call {
     pub n: u32,
     pub a: u32,
@@ -33,14 +34,12 @@ pub struct Outcome {
     pub to: LogPlace,
 }
 
-fn give(answer: Answer, counters: Counters, to: LogPlace) -> Outcome
-    ensures { Given result answer counters to }
-{
-    Outcome {
-        answer,
-        counters,
-        to,
-    }
+// What a call that is done leaves: its three values, the counters, and how many records it wrote.
+#[derive(Clone, Copy)]
+pub struct Done {
+    pub values: (u32, u32, u32),
+    pub counters: Counters,
+    pub records: u32,
 }
 
 // The records that remain in the log.
@@ -52,297 +51,270 @@ fn left(log: &[u32], to: LogPlace) -> usize
 }
 
 // Call 0.
-fn call_clear(
-    slots: &mut [u32],
-    links: &mut [u32],
-    owners: &mut [u32],
-    heads: &mut [u32],
-    log: &mut [u32],
-    counters: Counters,
-    to: LogPlace,
-    call: Call,
-) -> Outcome
-    requires { Fit (store_of slots.old links.old owners.old heads.old counters) × LogFits log.old to }
-    ensures { Became (clear_call (store_of slots.old links.old owners.old heads.old counters)) log.old to slots.new links.new owners.new heads.new log.new result }
+fn call_clear(tables: &mut Tables<'_>, counters: Counters) -> Done
+    ensures memory { SameMemory tables.old tables.new }
+    ensures call { LeftIn (clear_call (store_in tables.old counters)) counters tables.new (Ok result) }
 {
-    let none = clear::clear(slots, links, owners, heads, counters);
-    give(Answer::Done(0, 0, 0), none, to)
+    Done {
+        values: (0, 0, 0),
+        counters: clear::clear(tables, counters),
+        records: 0,
+    }
 }
 
 // Call 1.
 fn call_add(
-    slots: &mut [u32],
-    links: &mut [u32],
-    owners: &mut [u32],
-    heads: &mut [u32],
-    log: &mut [u32],
+    tables: &mut Tables<'_>,
     counters: Counters,
-    to: LogPlace,
-    call: Call,
-) -> Outcome
-    requires { Fit (store_of slots.old links.old owners.old heads.old counters) × LogFits log.old to }
-    ensures { Became (add_call (store_of slots.old links.old owners.old heads.old counters) call.a call.b) log.old to slots.new links.new owners.new heads.new log.new result }
+    inlets: u32,
+    outlets: u32,
+) -> Result<Done, Refusal>
+    requires { Fit (store_in tables.old counters) }
+    ensures memory { SameMemory tables.old tables.new }
+    ensures call { LeftIn (add_call (store_in tables.old counters) inlets outlets) counters tables.new result }
 {
-    let answer = steps::add_answer(slots, links.len(), heads, counters, call.a, call.b);
-    if !is_done(answer) {
-        return give(answer, counters, to);
-    }
-    let after = steps::add(slots, links, owners, heads, counters, call.a, call.b);
-    give(answer, after, to)
+    let view = tables.view();
+    let values = steps::add_answer(
+        view.slots,
+        view.links.len(),
+        view.heads,
+        counters,
+        inlets,
+        outlets,
+    )?;
+    Ok(Done {
+        values,
+        counters: steps::add(tables, counters, inlets, outlets),
+        records: 0,
+    })
 }
 
 // Call 2.
-fn call_remove(
-    slots: &mut [u32],
-    links: &mut [u32],
-    owners: &mut [u32],
-    heads: &mut [u32],
-    log: &mut [u32],
-    counters: Counters,
-    to: LogPlace,
-    call: Call,
-) -> Outcome
-    requires { Fit (store_of slots.old links.old owners.old heads.old counters) × LogFits log.old to }
-    ensures { Became (remove_call (store_of slots.old links.old owners.old heads.old counters) call.a) log.old to slots.new links.new owners.new heads.new log.new result }
+fn call_remove(tables: &mut Tables<'_>, counters: Counters, node: u32) -> Result<Done, Refusal>
+    requires { Fit (store_in tables.old counters) }
+    ensures memory { SameMemory tables.old tables.new }
+    ensures call { LeftIn (remove_call (store_in tables.old counters) node) counters tables.new result }
 {
-    let entry = node_at(slots, counters.nodemark, call.a);
-    let NodeEntry::Node(meta) = entry else {
-        return give(Answer::NoNode(call.a), counters, to);
-    };
-    let after = steps::remove(slots, links, owners, heads, counters, call.a, meta);
-    give(Answer::Done(0, 0, 0), after, to)
+    let view = tables.view();
+    let meta = live_node(view.slots, counters.nodemark, node).ok_or(Refusal::NoNode(node))?;
+    Ok(Done {
+        values: (0, 0, 0),
+        counters: steps::remove(tables, counters, node, meta),
+        records: 0,
+    })
 }
 
-// A resize of a live step whose counts change, with its answer.
-fn call_change(
-    slots: &mut [u32],
-    links: &mut [u32],
-    owners: &mut [u32],
-    heads: &mut [u32],
-    log: &mut [u32],
-    counters: Counters,
-    to: LogPlace,
-    change: Change,
-    answer: Answer,
-) -> Outcome
-    requires { Fit (store_of slots.old links.old owners.old heads.old counters) × LogFits log.old to × CanDecide (store_of slots.old links.old owners.old heads.old counters) log.old to change answer }
-    ensures { Became (change_call (store_of slots.old links.old owners.old heads.old counters) change answer) log.old to slots.new links.new owners.new heads.new log.new result }
-{
-    let Answer::Done(records, _, _) = answer else {
-        return give(answer, counters, to);
-    };
-    let after = resize::resize(slots, links, owners, heads, log, counters, to, change);
-    give(answer, after, to.past(records))
-}
-
-// Call 3.
+// Call 3. A step that has these counts already stays as it is.
 fn call_resize(
-    slots: &mut [u32],
-    links: &mut [u32],
-    owners: &mut [u32],
-    heads: &mut [u32],
+    tables: &mut Tables<'_>,
     log: &mut [u32],
     counters: Counters,
     to: LogPlace,
-    call: Call,
-) -> Outcome
-    requires { Fit (store_of slots.old links.old owners.old heads.old counters) × LogFits log.old to }
-    ensures { Became (resize_call (store_of slots.old links.old owners.old heads.old counters) (remaining log.old to) call.a call.b call.c) log.old to slots.new links.new owners.new heads.new log.new result }
+    node: u32,
+    inlets: u32,
+    outlets: u32,
+) -> Result<Done, Refusal>
+    requires { Fit (store_in tables.old counters) × LogFits log.old to }
+    ensures memory { SameMemory tables.old tables.new }
+    ensures call { LeftIn (resize_call (store_in tables.old counters) (remaining log.old to) node inlets outlets) counters tables.new result }
+    ensures log { log.new ≡ logged log.old to.at to.place (resize_call (store_in tables.old counters) (remaining log.old to) node inlets outlets).records }
 {
     let room = left(log, to);
-    let answer = resize::resize_answer(
-        slots,
-        links.len(),
-        heads,
+    let view = tables.view();
+    let values = resize::resize_answer(
+        view.slots,
+        view.links.len(),
+        view.heads,
         counters,
         room,
-        call.a,
-        call.b,
-        call.c,
-    );
-    if !is_done(answer) {
-        return give(answer, counters, to);
-    }
-    let entry = node_at(slots, counters.nodemark, call.a);
-    let NodeEntry::Node(meta) = entry else {
-        return give(answer, counters, to);
-    };
+        node,
+        inlets,
+        outlets,
+    )?;
+    let meta = live_node(view.slots, counters.nodemark, node).ok_or(Refusal::NoNode(node))?;
     let change = Change {
-        node: call.a,
+        node,
         meta,
-        inlets: call.b,
-        outlets: call.c,
+        inlets,
+        outlets,
     };
     if change.is_idle() {
-        return give(answer, counters, to);
+        return Ok(Done {
+            values,
+            counters,
+            records: 0,
+        });
     }
-    call_change(
-        slots, links, owners, heads, log, counters, to, change, answer,
-    )
+    Ok(Done {
+        values,
+        counters: resize::resize(tables, log, counters, to, change),
+        records: values.0,
+    })
 }
 
 // Call 4.
-fn call_link(
-    slots: &mut [u32],
-    links: &mut [u32],
-    owners: &mut [u32],
-    heads: &mut [u32],
-    log: &mut [u32],
-    counters: Counters,
-    to: LogPlace,
-    call: Call,
-) -> Outcome
-    requires { Fit (store_of slots.old links.old owners.old heads.old counters) × LogFits log.old to }
-    ensures { Became (link_call (store_of slots.old links.old owners.old heads.old counters) call.a call.b) log.old to slots.new links.new owners.new heads.new log.new result }
+fn call_link(tables: &mut Tables<'_>, counters: Counters, a: u32, b: u32) -> Result<Done, Refusal>
+    requires { Fit (store_in tables.old counters) }
+    ensures memory { SameMemory tables.old tables.new }
+    ensures call { LeftIn (link_call (store_in tables.old counters) a b) counters tables.new result }
 {
-    let answer = linking::link_answer(owners, links, counters.portmark, call.a, call.b);
-    if !is_done(answer) {
-        return give(answer, counters, to);
-    }
-    linking::join(links, call.a, call.b);
-    give(answer, counters.link_counted(), to)
+    let view = tables.view();
+    let values = linking::link_answer(view.owners, view.links, counters.portmark, a, b)?;
+    linking::join(tables.links, a, b);
+    Ok(Done {
+        values,
+        counters: counters.link_counted(),
+        records: 0,
+    })
 }
 
 // Call 5.
-fn call_unlink(
-    slots: &mut [u32],
-    links: &mut [u32],
-    owners: &mut [u32],
-    heads: &mut [u32],
-    log: &mut [u32],
-    counters: Counters,
-    to: LogPlace,
-    call: Call,
-) -> Outcome
-    requires { Fit (store_of slots.old links.old owners.old heads.old counters) × LogFits log.old to }
-    ensures { Became (unlink_call (store_of slots.old links.old owners.old heads.old counters) call.a) log.old to slots.new links.new owners.new heads.new log.new result }
+fn call_unlink(tables: &mut Tables<'_>, counters: Counters, port: u32) -> Result<Done, Refusal>
+    requires { Fit (store_in tables.old counters) }
+    ensures memory { SameMemory tables.old tables.new }
+    ensures call { LeftIn (unlink_call (store_in tables.old counters) port) counters tables.new result }
 {
-    let answer = linking::unlink_answer(owners, links, counters.portmark, call.a);
-    if !is_done(answer) {
-        return give(answer, counters, to);
-    }
-    let wires = slabs::links::cut(links, call.a as usize);
-    give(answer, counters.links_uncounted(wires), to)
+    let view = tables.view();
+    let values = linking::unlink_answer(view.owners, view.links, counters.portmark, port)?;
+    let wires = slabs::links::cut(tables.links, port as usize);
+    Ok(Done {
+        values,
+        counters: counters.links_uncounted(wires),
+        records: 0,
+    })
 }
 
 // Call 6.
-fn call_swap(
-    slots: &mut [u32],
-    links: &mut [u32],
-    owners: &mut [u32],
-    heads: &mut [u32],
-    log: &mut [u32],
-    counters: Counters,
-    to: LogPlace,
-    call: Call,
-) -> Outcome
-    requires { Fit (store_of slots.old links.old owners.old heads.old counters) × LogFits log.old to }
-    ensures { Became (swap_call (store_of slots.old links.old owners.old heads.old counters) call.a call.b) log.old to slots.new links.new owners.new heads.new log.new result }
+fn call_swap(tables: &mut Tables<'_>, counters: Counters, a: u32, b: u32) -> Result<Done, Refusal>
+    requires { Fit (store_in tables.old counters) }
+    ensures memory { SameMemory tables.old tables.new }
+    ensures call { LeftIn (swap_call (store_in tables.old counters) a b) counters tables.new result }
 {
-    let answer = swap::swap_answer(counters.nodemark, call.a, call.b);
-    if !is_done(answer) {
-        return give(answer, counters, to);
-    }
-    let after = swap::swap(slots, owners, counters, call.a, call.b);
-    give(answer, after, to)
+    let values = swap::swap_answer(counters.nodemark, a, b)?;
+    Ok(Done {
+        values,
+        counters: swap::swap(tables.slots, tables.owners, counters, a, b),
+        records: 0,
+    })
 }
 
 // Call 7.
 fn call_compact_nodes(
-    slots: &mut [u32],
-    links: &mut [u32],
-    owners: &mut [u32],
-    heads: &mut [u32],
+    tables: &mut Tables<'_>,
     log: &mut [u32],
     counters: Counters,
     to: LogPlace,
-    call: Call,
-) -> Outcome
-    requires { Fit (store_of slots.old links.old owners.old heads.old counters) × LogFits log.old to }
-    ensures { Became (compact_nodes_call (store_of slots.old links.old owners.old heads.old counters) (remaining log.old to)) log.old to slots.new links.new owners.new heads.new log.new result }
+) -> Result<Done, Refusal>
+    requires { Fit (store_in tables.old counters) × LogFits log.old to }
+    ensures memory { SameMemory tables.old tables.new }
+    ensures call { LeftIn (compact_nodes_call (store_in tables.old counters) (remaining log.old to)) counters tables.new result }
+    ensures log { log.new ≡ logged log.old to.at to.place (compact_nodes_call (store_in tables.old counters) (remaining log.old to)).records }
 {
-    let answer = compact::compact_answer(counters.nodes, left(log, to));
-    if !is_done(answer) {
-        return give(answer, counters, to);
-    }
-    let after = compact::compact_nodes(slots, owners, log, counters, to);
-    give(answer, after, to.past(counters.nodes))
+    let values = compact::compact_answer(counters.nodes, left(log, to))?;
+    Ok(Done {
+        values,
+        counters: compact::compact_nodes(tables.slots, tables.owners, log, counters, to),
+        records: counters.nodes,
+    })
 }
 
 // Call 8.
 fn call_compact_ports(
-    slots: &mut [u32],
-    links: &mut [u32],
-    owners: &mut [u32],
-    heads: &mut [u32],
+    tables: &mut Tables<'_>,
     log: &mut [u32],
     counters: Counters,
     to: LogPlace,
-    call: Call,
-) -> Outcome
-    requires { Fit (store_of slots.old links.old owners.old heads.old counters) × LogFits log.old to }
-    ensures { Became (compact_ports_call (store_of slots.old links.old owners.old heads.old counters) (remaining log.old to)) log.old to slots.new links.new owners.new heads.new log.new result }
+) -> Result<Done, Refusal>
+    requires { Fit (store_in tables.old counters) × LogFits log.old to }
+    ensures memory { SameMemory tables.old tables.new }
+    ensures call { LeftIn (compact_ports_call (store_in tables.old counters) (remaining log.old to)) counters tables.new result }
+    ensures log { log.new ≡ logged log.old to.at to.place (compact_ports_call (store_in tables.old counters) (remaining log.old to)).records }
 {
-    let answer = compact::compact_answer(counters.ports, left(log, to));
-    if !is_done(answer) {
-        return give(answer, counters, to);
-    }
-    let after = compact::compact_ports(slots, links, owners, heads, log, counters, to);
-    give(answer, after, to.past(counters.ports))
+    let values = compact::compact_answer(counters.ports, left(log, to))?;
+    Ok(Done {
+        values,
+        counters: compact::compact_ports(tables, log, counters, to),
+        records: counters.ports,
+    })
 }
 
-// Calls 9 to 13, which change nothing, and numbers that no call has.
-fn ask(
-    slots: &[u32],
-    links: &[u32],
-    owners: &[u32],
-    heads: &[u32],
-    counters: Counters,
-    call: Call,
-) -> Answer
-    requires { Fit (store_of slots.now links.now owners.now heads.now counters) }
-    ensures { result ≡ question (store_of slots.now links.now owners.now heads.now counters) call }
+// Calls 9 to 13, and numbers that no call has.
+fn ask(view: View<'_>, counters: Counters, call: Call) -> Answer
+    requires { Fit (store_seen view counters) }
+    ensures { result ≡ question (store_seen view.entry counters) call }
 {
-    let n = call.n;
-    match n {
-        9 => questions::ask_node(slots, counters.nodemark, call.a),
-        10 => questions::ask_port(slots, owners, counters, call.a),
-        11 => questions::ask_offset(slots, counters.nodemark, call.a, call.b, call.c),
-        12 => questions::ask_link(owners, links, counters.portmark, call.a),
+    match call.n {
+        9 => questions::ask_node(view.slots, counters.nodemark, call.a),
+        10 => questions::ask_port(view.slots, view.owners, counters, call.a),
+        11 => questions::ask_offset(view.slots, counters.nodemark, call.a, call.b, call.c),
+        12 => questions::ask_link(view.owners, view.links, counters.portmark, call.a),
         13 => questions::ask_counts(counters),
-        _ => Answer::NoSuchCall,
+        _ => Err(Refusal::NoSuchCall),
     }
 }
 
-// Every call.
+// A question changes nothing.
+fn call_question(view: View<'_>, counters: Counters, call: Call) -> Result<Done, Refusal>
+    requires { Fit (store_seen view counters) }
+    ensures { result ≡ question_call (store_seen view.entry counters) call }
+{
+    let values = ask(view, counters, call)?;
+    Ok(Done {
+        values,
+        counters,
+        records: 0,
+    })
+}
+
+// Every call. The one place where a call's number is read: names for the numbers would want a second match of the same fourteen.
+fn answer_call(
+    tables: &mut Tables<'_>,
+    log: &mut [u32],
+    counters: Counters,
+    to: LogPlace,
+    call: Call,
+) -> Result<Done, Refusal>
+    requires { Fit (store_in tables.old counters) × LogFits log.old to }
+    ensures memory { SameMemory tables.old tables.new }
+    ensures call { LeftIn (call_of (store_in tables.old counters) (remaining log.old to) call) counters tables.new result }
+    ensures log { log.new ≡ logged log.old to.at to.place (call_of (store_in tables.old counters) (remaining log.old to) call).records }
+{
+    match call.n {
+        0 => Ok(call_clear(tables, counters)),
+        1 => call_add(tables, counters, call.a, call.b),
+        2 => call_remove(tables, counters, call.a),
+        3 => call_resize(tables, log, counters, to, call.a, call.b, call.c),
+        4 => call_link(tables, counters, call.a, call.b),
+        5 => call_unlink(tables, counters, call.a),
+        6 => call_swap(tables, counters, call.a, call.b),
+        7 => call_compact_nodes(tables, log, counters, to),
+        8 => call_compact_ports(tables, log, counters, to),
+        _ => call_question(tables.view(), counters, call),
+    }
+}
+
+// Answers a call, and says where the next one's records go.
 pub fn dispatch(
-    slots: &mut [u32],
-    links: &mut [u32],
-    owners: &mut [u32],
-    heads: &mut [u32],
+    tables: &mut Tables<'_>,
     log: &mut [u32],
     counters: Counters,
     to: LogPlace,
     call: Call,
 ) -> Outcome
-    requires { Fit (store_of slots.old links.old owners.old heads.old counters) × LogFits log.old to }
-    ensures { Became (call_of (store_of slots.old links.old owners.old heads.old counters) (remaining log.old to) call) log.old to slots.new links.new owners.new heads.new log.new result }
+    requires { Fit (store_in tables.old counters) × LogFits log.old to }
+    ensures memory { SameMemory tables.old tables.new }
+    ensures call { BecameIn (call_of (store_in tables.old counters) (remaining log.old to) call) log.old to tables.new log.new result }
 {
-    let n = call.n;
-    match n {
-        0 => call_clear(slots, links, owners, heads, log, counters, to, call),
-        1 => call_add(slots, links, owners, heads, log, counters, to, call),
-        2 => call_remove(slots, links, owners, heads, log, counters, to, call),
-        3 => call_resize(slots, links, owners, heads, log, counters, to, call),
-        4 => call_link(slots, links, owners, heads, log, counters, to, call),
-        5 => call_unlink(slots, links, owners, heads, log, counters, to, call),
-        6 => call_swap(slots, links, owners, heads, log, counters, to, call),
-        7 => call_compact_nodes(slots, links, owners, heads, log, counters, to, call),
-        8 => call_compact_ports(slots, links, owners, heads, log, counters, to, call),
-        _ => give(
-            ask(slots, links, owners, heads, counters, call),
+    match answer_call(tables, log, counters, to, call) {
+        Ok(done) => Outcome {
+            answer: Ok(done.values),
+            counters: done.counters,
+            to: to.past(done.records),
+        },
+        Err(refusal) => Outcome {
+            answer: Err(refusal),
             counters,
             to,
-        ),
+        },
     }
 }

@@ -9,8 +9,5 @@ use std::io::{self, Write};
 fn main(rt: HostRuntime) -> io::Result<()> {
     let mut text = [0u8; 11265];
     let n = read_full(&mut rt.stdin(), &mut text)?;
-    let page = text::desk(&text[..n]);
-    let bytes = page.bytes;
-    let len = page.len;
-    rt.stdout().write_all(&bytes[..len])
+    rt.stdout().write_all(&text::desk(&text[..n]))
 }

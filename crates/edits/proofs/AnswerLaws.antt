@@ -10,8 +10,10 @@ use Rattle.slabs.specs.Choice.{pick}
 use Rattle.slabs.specs.NodeEntry.{node_entry}
 use Rattle.slabs.specs.declared.node_entry.NodeEntry.{NodeEntry}
 use Rattle.slabs.specs.declared.node_entry.NodeEntry.TheVariants.{Free, Node}
-use Rattle.edits.specs.declared.answer.Answer.{Answer}
-use Rattle.edits.specs.declared.answer.Answer.TheVariants.{Done, TooManyPorts, SlabTooLarge, NoSlot, NoSlab}
+use Rattle.edits.specs.Answer.{Answer}
+use Rattle.edits.specs.declared.answer.Refusal.TheVariants.{TooManyPorts, SlabTooLarge, NoSlot, NoSlab}
+use Rattle.edits.specs.Answer.{done}
+use Rattle.std.specs.Prelude.{Err}
 use Rattle.edits.specs.Store.{Store}
 use Rattle.edits.specs.Answer.{is_done}
 use Rattle.edits.specs.FreeSlots.{slot_at_hand, next_slot}
@@ -36,15 +38,15 @@ pub add_done : (s : Store) (inlets outlets : ℕ)
 unfolding add_answer
 add_done s inlets outlets h =
     let total = inlets + outlets in
-    let last = pick (new_slab_at_hand s.heads s.counters.portmark (length s.links) total) (Done (next_slot s.counters) 0 0) NoSlab in
-    let fourth = pick (slot_at_hand s.slots s.counters) last NoSlot in
-    let third = pick (ltb (length s.heads) total) SlabTooLarge fourth in
-    let second = pick (ltb most outlets) TooManyPorts third in
-    let p = not_refused (ltb most inlets) TooManyPorts second refl h in
-    let q = not_refused (ltb most outlets) TooManyPorts third refl p.1 in
-    let r = not_refused (ltb (length s.heads) total) SlabTooLarge fourth refl q.1 in
-    let t = passed (slot_at_hand s.slots s.counters) last NoSlot refl r.1 in
-    let u = passed (new_slab_at_hand s.heads s.counters.portmark (length s.links) total) (Done (next_slot s.counters) 0 0) NoSlab refl t.1 in
+    let last = pick (new_slab_at_hand s.heads s.counters.portmark (length s.links) total) (done (next_slot s.counters) 0 0) (Err NoSlab) in
+    let fourth = pick (slot_at_hand s.slots s.counters) last (Err NoSlot) in
+    let third = pick (ltb (length s.heads) total) (Err SlabTooLarge) fourth in
+    let second = pick (ltb most outlets) (Err TooManyPorts) third in
+    let p = not_refused (ltb most inlets) (Err TooManyPorts) second refl h in
+    let q = not_refused (ltb most outlets) (Err TooManyPorts) third refl p.1 in
+    let r = not_refused (ltb (length s.heads) total) (Err SlabTooLarge) fourth refl q.1 in
+    let t = passed (slot_at_hand s.slots s.counters) last (Err NoSlot) refl r.1 in
+    let u = passed (new_slab_at_hand s.heads s.counters.portmark (length s.links) total) (done (next_slot s.counters) 0 0) (Err NoSlab) refl t.1 in
     record {
       few_inlets = ltb-false most inlets p.0;
       few_outlets = ltb-false most outlets q.0;
@@ -55,7 +57,7 @@ add_done s inlets outlets h =
 
 -- and one that can be done is answered so, with the slot that it takes.
 pub add_given : {s : Store} {inlets outlets : ℕ} → CanAdd s inlets outlets
-    → add_answer s.slots (length s.links) s.heads s.counters inlets outlets ≡ Done (next_slot s.counters) 0 0
+    → add_answer s.slots (length s.links) s.heads s.counters inlets outlets ≡ done (next_slot s.counters) 0 0
 unfolding add_answer
 add_given can =
     simp (le-ltb _ _ can.few_inlets, le-ltb _ _ can.few_outlets, le-ltb _ _ can.sized, can.slot, can.slab)

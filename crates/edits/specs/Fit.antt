@@ -9,6 +9,7 @@ use Rattle.slabs.specs.declared.counters.Counters.{Counters}
 use Rattle.slabs.specs.declared.node_entry.NodeMeta.{NodeMeta}
 use Rattle.slabs.specs.declared.node_entry.NodeEntry.TheVariants.{Free, Node}
 use Rattle.edits.specs.Store.{Store}
+use Rattle.edits.specs.declared.store.Tables.{Tables}
 use Rattle.edits.specs.FreeSlots.{slot_at_hand}
 use Rattle.edits.specs.Steps.{most, new_slab_at_hand}
 use Rattle.edits.specs.Counts.{live_slots, live_ports}
@@ -60,3 +61,7 @@ pub record StoreIs (s : Store) (slots links owners heads : List ℕ) (c : Counte
   pub owners_after : owners ≡ s.owners
   pub heads_after : heads ≡ s.heads
   pub counters_after : c ≡ s.counters
+
+-- the words of a store stand in these tables
+abbrev pub StoreIn : Store → Tables → Counters → Type 0
+StoreIn s t c = StoreIs s t.slots.now t.links.now t.owners.now t.heads.now c

@@ -6,15 +6,18 @@ use Rattle.slabs.specs.NodeEntry.{width, slot_word, set_entry}
 use Rattle.slabs.specs.Counters.{free_slot_moved}
 use Rattle.slabs.specs.declared.counters.Counters.{Counters}
 use Rattle.slabs.specs.declared.node_entry.NodeEntry.TheVariants.{Free}
-use Rattle.edits.specs.declared.free_slots.SlotTaken.{SlotTaken}
 
--- the slots once the free slot that a word names has this previous; 0 names none
+-- the slots once this word of the free slot that `word` names is a neighbour; 0 names none
+abbrev pub set_neighbour : ℕ → List ℕ → ℕ → ℕ → List ℕ
+set_neighbour at slots word neighbour = pick (eqb word 0) slots (set slots (width * (word - 1) + at) neighbour)
+
+-- its first word is its previous,
 unfoldable pub set_previous : List ℕ → ℕ → ℕ → List ℕ
-set_previous slots word previous = pick (eqb word 0) slots (set slots (width * (word - 1) + 0) previous)
+set_previous slots word previous = set_neighbour 0 slots word previous
 
--- the same for its next
+-- its third its next
 unfoldable pub set_next : List ℕ → ℕ → ℕ → List ℕ
-set_next slots word next = pick (eqb word 0) slots (set slots (width * (word - 1) + 2) next)
+set_next slots word next = set_neighbour 2 slots word next
 
 -- a slot can be had: the chain has one, or the room above the node mark. Where not, the answer is 5
 unfoldable pub slot_at_hand : List ℕ → Counters → Bool
@@ -55,8 +58,8 @@ pub record CanTakeSlot (slots : List ℕ) (c : Counters) : Type 0 where
   pub second : (k : ℕ) → c.freeslot ≡ suc k → width * slot_word slots k 2 ≤ length slots
   pub few : c.nodemark ≤ 65536
 
--- What taking a slot does.
-pub record TookSlot (slots : List ℕ) (c : Counters) (slots' : List ℕ) (r : SlotTaken) : Type 0 where
-  pub node : r.node ≡ next_slot c
-  pub counters : r.counters ≡ slot_taken_counters slots c
+-- What taking a slot does: which slot it is, and the slots and counters after it.
+pub record TookSlot (slots : List ℕ) (c : Counters) (slots' : List ℕ) (node' : ℕ) (c' : Counters) : Type 0 where
+  pub node : node' ≡ next_slot c
+  pub counters : c' ≡ slot_taken_counters slots c
   pub slots_after : slots' ≡ slot_taken slots c

@@ -6,13 +6,14 @@ use Rattle.slabs.specs.Links.{wires_in}
 use Rattle.slabs.specs.Counters.{port_marked, node_counted, node_uncounted, slab_freed}
 use Rattle.slabs.specs.Slab.{head_of, at_hand, taken_first, taken_links, taken_heads, taken_mark, owners_written, freed_links, freed_owners, freed_heads}
 use Rattle.slabs.specs.declared.counters.Counters.{Counters}
-use Rattle.slabs.specs.declared.slab.Taken.{Taken}
 use Rattle.slabs.specs.declared.node_entry.NodeMeta.{NodeMeta}
 use Rattle.slabs.specs.declared.node_entry.NodeEntry.TheVariants.{Node}
 use Rattle.edits.specs.Store.{Store, node_at, on_node}
 use Rattle.edits.specs.FreeSlots.{slot_at_hand, next_slot, slot_taken, slot_taken_counters, slot_freed, slot_freed_counters}
-use Rattle.edits.specs.declared.answer.Answer.{Answer}
-use Rattle.edits.specs.declared.answer.Answer.TheVariants.{Done, NoNode, TooManyPorts, SlabTooLarge, NoSlot, NoSlab}
+use Rattle.edits.specs.Answer.{Answer}
+use Rattle.edits.specs.declared.answer.Refusal.TheVariants.{NoNode, TooManyPorts, SlabTooLarge, NoSlot, NoSlab}
+use Rattle.edits.specs.Answer.{done}
+use Rattle.std.specs.Prelude.{Err}
 
 -- the most inlets, and the most outlets, of a step
 abbrev pub most : ℕ
@@ -45,9 +46,9 @@ pub record CanTakePorts (links owners heads : List ℕ) (c : Counters) (node inl
   pub inside : (first : ℕ) → 1 ≤ inlets + outlets → head_of heads (inlets + outlets) ≡ suc first → first + (inlets + outlets) ≤ length links
 
 -- What it does, its owner words written.
-pub record TookPorts (links owners heads : List ℕ) (c : Counters) (node inlets outlets : ℕ) (links' owners' heads' : List ℕ) (r : Taken) : Type 0 where
-  pub first : r.first ≡ new_first heads c.portmark (inlets + outlets)
-  pub counters : r.counters ≡ port_marked c (new_mark heads c.portmark (inlets + outlets))
+pub record TookPorts (links owners heads : List ℕ) (c : Counters) (node inlets outlets : ℕ) (links' owners' heads' : List ℕ) (first' : ℕ) (c' : Counters) : Type 0 where
+  pub first : first' ≡ new_first heads c.portmark (inlets + outlets)
+  pub counters : c' ≡ port_marked c (new_mark heads c.portmark (inlets + outlets))
   pub links_after : links' ≡ new_links links heads (inlets + outlets)
   pub owners_after : owners' ≡ owners_written owners node (new_first heads c.portmark (inlets + outlets)) inlets outlets
   pub heads_after : heads' ≡ new_heads links heads (inlets + outlets)
@@ -56,14 +57,14 @@ pub record TookPorts (links owners heads : List ℕ) (c : Counters) (node inlets
 unfoldable pub add_answer : List ℕ → ℕ → List ℕ → Counters → ℕ → ℕ → Answer
 add_answer slots room heads c inlets outlets =
     pick (ltb most inlets)
-    TooManyPorts
+    (Err TooManyPorts)
     (pick (ltb most outlets)
-    TooManyPorts
+    (Err TooManyPorts)
     (pick (ltb (length heads) (inlets + outlets))
-    SlabTooLarge
+    (Err SlabTooLarge)
     (pick (slot_at_hand slots c)
-    (pick (new_slab_at_hand heads c.portmark room (inlets + outlets)) (Done (next_slot c) 0 0) NoSlab)
-    NoSlot)))
+    (pick (new_slab_at_hand heads c.portmark room (inlets + outlets)) (done (next_slot c) 0 0) (Err NoSlab))
+    (Err NoSlot))))
 
 -- the store with the new step: its capacity is inlets plus outlets
 unfoldable pub added : Store → ℕ → ℕ → Store
@@ -82,7 +83,7 @@ added s inlets outlets =
 
 -- call 2
 unfoldable pub remove_answer : List ℕ → ℕ → ℕ → Answer
-remove_answer slots mark node = on_node (node_at slots mark node) (λ m. Done 0 0 0) (NoNode node)
+remove_answer slots mark node = on_node (node_at slots mark node) (λ m. done 0 0 0) (Err (NoNode node))
 
 -- a slot of capacity 0 has no slab to free
 unfoldable pub removed_links : List ℕ → List ℕ → NodeMeta → List ℕ

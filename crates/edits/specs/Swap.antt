@@ -10,12 +10,14 @@ use Rattle.slabs.specs.declared.node_entry.NodeEntry.TheVariants.{Free, Node}
 use Rattle.edits.specs.Store.{Store}
 use Rattle.edits.specs.FreeSlots.{set_previous, set_next}
 use Rattle.edits.specs.Steps.{most}
-use Rattle.edits.specs.declared.answer.Answer.{Answer}
-use Rattle.edits.specs.declared.answer.Answer.TheVariants.{Done, NoNode}
+use Rattle.edits.specs.Answer.{Answer}
+use Rattle.edits.specs.declared.answer.Refusal.TheVariants.{NoNode}
+use Rattle.edits.specs.Answer.{done}
+use Rattle.std.specs.Prelude.{Err}
 
 -- call 6: 1 for a, then for b
 unfoldable pub swap_answer : ℕ → ℕ → ℕ → Answer
-swap_answer mark a b = pick (leb mark a) (NoNode a) (pick (leb mark b) (NoNode b) (Done 0 0 0))
+swap_answer mark a b = pick (leb mark a) (Err (NoNode a)) (pick (leb mark b) (Err (NoNode b)) (done 0 0 0))
 
 -- An entry arrives at a slot: the neighbours of a free one name it there,
 unfoldable pub arrived_slots : List ℕ → ℕ → NodeEntry → List ℕ

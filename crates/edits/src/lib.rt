@@ -8,4 +8,5 @@ pub mod free_slots;
 pub mod linking;
 pub mod questions;
 pub mod steps;
+pub mod store;
 pub mod swap;

@@ -2,38 +2,27 @@
 ghost use Rattle.std.specs.Prelude.{◌≡◌, ◌≤◌, ◌<◌, length};
 ghost use Rattle.edits.specs.Linking.{link_answer, joined, unlink_answer};
 
-use crate::answer::Answer;
+use crate::answer::{Answer, Refusal};
 use crate::questions::port_at;
-use slabs::links::Link;
-use slabs::port_entry::PortEntry;
+use slabs::links::link_at;
 
 // What call 4 answers. Code 2 names `a` also where `b` is not live.
 pub fn link_answer(owners: &[u32], links: &[u32], mark: u32, a: u32, b: u32) -> Answer
     requires { (mark ≤ length owners.now) × (mark ≤ length links.now) }
     ensures { result ≡ link_answer owners.now links.now mark a b }
 {
-    let here = port_at(owners, mark, a);
-    let PortEntry::Port { node: _, direction } = here else {
-        return Answer::NoPort(a);
-    };
-    let there = port_at(owners, mark, b);
-    let PortEntry::Port {
-        node: _,
-        direction: facing,
-    } = there
-    else {
-        return Answer::NoPort(a); // not b
-    };
-    if direction == facing {
-        return Answer::SameDirection(a, b, direction);
+    let here = port_at(owners, mark, a).ok_or(Refusal::NoPort(a))?;
+    let there = port_at(owners, mark, b).ok_or(Refusal::NoPort(a))?; // not b
+    if here.direction == there.direction {
+        return Err(Refusal::SameDirection(a, b, here.direction));
     }
     if links[a as usize] != 0 {
-        return Answer::AlreadyLinked(a);
+        return Err(Refusal::AlreadyLinked(a));
     }
     if links[b as usize] != 0 {
-        return Answer::AlreadyLinked(b);
+        return Err(Refusal::AlreadyLinked(b));
     }
-    Answer::Done(a, b, 0)
+    Ok((a, b, 0))
 }
 
 // Makes a wire between two ports.
@@ -50,17 +39,7 @@ pub fn unlink_answer(owners: &[u32], links: &[u32], mark: u32, port: u32) -> Ans
     requires { (mark ≤ length owners.now) × (mark ≤ length links.now) }
     ensures { result ≡ unlink_answer owners.now links.now mark port }
 {
-    let entry = port_at(owners, mark, port);
-    let PortEntry::Port {
-        node: _,
-        direction: _,
-    } = entry
-    else {
-        return Answer::NoPort(port);
-    };
-    let link = slabs::links::link_at(links, port as usize);
-    match link {
-        Link::To(partner) => Answer::Done(partner, 0, 0),
-        Link::Loose => Answer::NotLinked(port),
-    }
+    port_at(owners, mark, port).ok_or(Refusal::NoPort(port))?;
+    let partner = link_at(links, port as usize).ok_or(Refusal::NotLinked(port))?;
+    Ok((partner, 0, 0))
 }

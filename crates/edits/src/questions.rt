@@ -1,15 +1,15 @@
 // The questions, calls 9 to 13, and what they ask of a slot and of a port.
 ghost use Rattle.std.specs.Prelude.{◌≡◌, ◌+◌, ◌*◌, ◌≤◌, length};
 ghost use Rattle.slabs.specs.NodeEntry.{width};
-ghost use Rattle.edits.specs.Store.{node_at, port_at};
+ghost use Rattle.edits.specs.Store.{node_at, live_node, port_at};
 ghost use Rattle.edits.specs.Questions.{ask_node, ask_port, nth_port, ask_offset, ask_link, ask_counts};
 ghost use Rattle.edits.specs.Fit.{SlotsFit};
 
-use crate::answer::Answer;
-use slabs::counters::{Counters, less};
-use slabs::links::Link;
-use slabs::node_entry::NodeEntry;
-use slabs::port_entry::PortEntry;
+use crate::answer::{Answer, Refusal};
+use slabs::counters::Counters;
+use slabs::links::link_at;
+use slabs::node_entry::{NodeEntry, NodeMeta};
+use slabs::port_entry::{Direction, PortMeta};
 
 // What a slot says where it is below the mark; a slot at or above it is not live.
 pub fn node_at(slots: &[u32], mark: u32, node: u32) -> NodeEntry
@@ -25,15 +25,26 @@ pub fn node_at(slots: &[u32], mark: u32, node: u32) -> NodeEntry
     }
 }
 
+// What a slot holds where it is live and below the mark.
+pub fn live_node(slots: &[u32], mark: u32, node: u32) -> Option<NodeMeta>
+    requires { width * mark ≤ length slots.now }
+    ensures { result ≡ live_node slots.now mark node }
+{
+    match node_at(slots, mark, node) {
+        NodeEntry::Node(meta) => Some(meta),
+        NodeEntry::Free { .. } => None,
+    }
+}
+
 // What a port's owner word says where it is below the mark; a port at or above it is not live.
-pub fn port_at(owners: &[u32], mark: u32, port: u32) -> PortEntry
+pub fn port_at(owners: &[u32], mark: u32, port: u32) -> Option<PortMeta>
     requires { mark ≤ length owners.now }
     ensures { result ≡ port_at owners.now mark port }
 {
     if port < mark {
         return slabs::port_entry::port_entry(owners[port as usize]);
     }
-    PortEntry::Free
+    None
 }
 
 // Call 9.
@@ -41,14 +52,8 @@ pub fn ask_node(slots: &[u32], mark: u32, node: u32) -> Answer
     requires { width * mark ≤ length slots.now }
     ensures { result ≡ ask_node slots.now mark node }
 {
-    let entry = node_at(slots, mark, node);
-    match entry {
-        NodeEntry::Node(m) => Answer::Done(m.inlets, m.outlets, m.capacity),
-        NodeEntry::Free {
-            previous: _,
-            next: _,
-        } => Answer::NoNode(node),
-    }
+    let m = live_node(slots, mark, node).ok_or(Refusal::NoNode(node))?;
+    Ok((m.inlets, m.outlets, m.capacity))
 }
 
 // Call 10.
@@ -56,19 +61,14 @@ pub fn ask_port(slots: &[u32], owners: &[u32], counters: Counters, port: u32) ->
     requires { (width * counters.nodemark ≤ length slots.now) × (counters.portmark ≤ length owners.now) }
     ensures { result ≡ ask_port slots.now owners.now counters port }
 {
-    let entry = port_at(owners, counters.portmark, port);
-    let PortEntry::Port { node, direction } = entry else {
-        return Answer::NoPort(port);
-    };
-    let owner = node_at(slots, counters.nodemark, node);
-    let NodeEntry::Node(m) = owner else {
-        return Answer::OwnerNotLive;
-    };
-    let offset = less(port, m.first);
-    if direction == 0 {
-        return Answer::Done(node, direction, offset);
+    let here = port_at(owners, counters.portmark, port).ok_or(Refusal::NoPort(port))?;
+    let owner = live_node(slots, counters.nodemark, here.node);
+    let m = owner.ok_or(Refusal::OwnerNotLive)?;
+    let offset = port.saturating_sub(m.first);
+    match here.direction {
+        Direction::Incoming => Ok((here.node, 0, offset)),
+        Direction::Outgoing => Ok((here.node, 1, offset.saturating_sub(m.inlets))),
     }
-    Answer::Done(node, direction, less(offset, m.inlets))
 }
 
 // The port at an offset, of n ports from `first` on.
@@ -77,9 +77,9 @@ fn nth_port(first: u32, n: u32, offset: u32) -> Answer
     ensures { result ≡ nth_port first n offset }
 {
     if offset < n {
-        return Answer::Done(first + offset, 0, 0);
+        return Ok((first + offset, 0, 0));
     }
-    Answer::NoPort(offset)
+    Err(Refusal::NoPort(offset))
 }
 
 // Call 11.
@@ -87,17 +87,12 @@ pub fn ask_offset(slots: &[u32], mark: u32, node: u32, direction: u32, offset: u
     requires { (width * mark ≤ length slots.now) × SlotsFit slots.now mark 32768 1048576 }
     ensures { result ≡ ask_offset slots.now mark node direction offset }
 {
-    if 1 < direction {
-        return Answer::NoSuchCall;
+    let direction = Direction::try_from(direction)?;
+    let m = live_node(slots, mark, node).ok_or(Refusal::NoNode(node))?;
+    match direction {
+        Direction::Incoming => nth_port(m.first, m.inlets, offset),
+        Direction::Outgoing => nth_port(m.first + m.inlets, m.outlets, offset),
     }
-    let entry = node_at(slots, mark, node);
-    let NodeEntry::Node(m) = entry else {
-        return Answer::NoNode(node);
-    };
-    if direction == 0 {
-        return nth_port(m.first, m.inlets, offset);
-    }
-    nth_port(m.first + m.inlets, m.outlets, offset)
 }
 
 // Call 12.
@@ -105,18 +100,10 @@ pub fn ask_link(owners: &[u32], links: &[u32], mark: u32, port: u32) -> Answer
     requires { (mark ≤ length owners.now) × (mark ≤ length links.now) }
     ensures { result ≡ ask_link owners.now links.now mark port }
 {
-    let entry = port_at(owners, mark, port);
-    let PortEntry::Port {
-        node: _,
-        direction: _,
-    } = entry
-    else {
-        return Answer::NoPort(port);
-    };
-    let link = slabs::links::link_at(links, port as usize);
-    match link {
-        Link::To(partner) => Answer::Done(1, partner, 0),
-        Link::Loose => Answer::Done(0, 0, 0),
+    port_at(owners, mark, port).ok_or(Refusal::NoPort(port))?;
+    match link_at(links, port as usize) {
+        Some(partner) => Ok((1, partner, 0)),
+        None => Ok((0, 0, 0)),
     }
 }
 
@@ -124,5 +111,5 @@ pub fn ask_link(owners: &[u32], links: &[u32], mark: u32, port: u32) -> Answer
 pub fn ask_counts(counters: Counters) -> Answer
     ensures { result ≡ ask_counts counters }
 {
-    Answer::Done(counters.nodes, counters.ports, counters.links)
+    Ok((counters.nodes, counters.ports, counters.links))
 }

@@ -2,15 +2,15 @@
 ghost use Rattle.std.specs.Prelude.{◌≡◌, ◌+◌, ◌≤◌, ◌<◌, length};
 ghost use Rattle.slabs.specs.NodeEntry.{node_entry};
 ghost use Rattle.slabs.specs.declared.node_entry.NodeEntry.TheVariants.{Node};
-ghost use Rattle.edits.specs.Store.{store_of};
+ghost use Rattle.edits.specs.Store.{store_in, SameMemory};
 ghost use Rattle.edits.specs.Steps.{new_slab_at_hand, add_answer, added, removed, CanTakePorts, TookPorts};
-ghost use Rattle.edits.specs.Fit.{Fit, CanAdd, StoreIs};
+ghost use Rattle.edits.specs.Fit.{Fit, CanAdd, StoreIn};
 
-use crate::answer::Answer;
+use crate::answer::{Answer, Refusal};
 use crate::free_slots;
+use crate::store::Tables;
 use slabs::counters::Counters;
 use slabs::node_entry::{NodeEntry, NodeMeta};
-use slabs::slab::Taken;
 
 // The most inlets, and the most outlets, of a step.
 pub const MOST: u32 = 16384;
@@ -20,10 +20,7 @@ fn new_slab_at_hand(heads: &[u32], mark: u32, room: usize, total: u32) -> bool
     requires { total ≤ length heads.now }
     ensures { result ≡ new_slab_at_hand heads.now mark room total }
 {
-    if total == 0 {
-        return true;
-    }
-    slabs::slab::at_hand(heads, mark, room, total)
+    total == 0 || slabs::slab::at_hand(heads, mark, room, total)
 }
 
 // What call 1 answers. `room` is the length of the port tables.
@@ -37,23 +34,20 @@ pub fn add_answer(
 ) -> Answer
     ensures { result ≡ add_answer slots.now room heads.now counters inlets outlets }
 {
-    if MOST < inlets {
-        return Answer::TooManyPorts;
-    }
-    if MOST < outlets {
-        return Answer::TooManyPorts;
+    if MOST < inlets || MOST < outlets {
+        return Err(Refusal::TooManyPorts);
     }
     let total = inlets + outlets;
     if heads.len() < total as usize {
-        return Answer::SlabTooLarge;
+        return Err(Refusal::SlabTooLarge);
     }
     if !free_slots::slot_at_hand(slots, counters) {
-        return Answer::NoSlot;
+        return Err(Refusal::NoSlot);
     }
     if !new_slab_at_hand(heads, counters.portmark, room, total) {
-        return Answer::NoSlab;
+        return Err(Refusal::NoSlab);
     }
-    Answer::Done(free_slots::next_slot(counters), 0, 0)
+    Ok((free_slots::next_slot(counters), 0, 0))
 }
 
 // The slab of a new step, with its owner words: none where it has no ports.
@@ -65,70 +59,67 @@ fn take_ports(
     node: u32,
     inlets: u32,
     outlets: u32,
-) -> Taken
+) -> (u32, Counters)
     requires { CanTakePorts links.old owners.old heads.old counters node inlets outlets }
-    ensures { TookPorts links.old owners.old heads.old counters node inlets outlets links.new owners.new heads.new result }
+    ensures { TookPorts links.old owners.old heads.old counters node inlets outlets links.new owners.new heads.new result.0 result.1 }
 {
     let total = inlets + outlets;
     if total == 0 {
-        return Taken { first: 0, counters };
+        return (0, counters);
     }
-    let taken = slabs::slab::take_slab(links, heads, counters, total);
+    let (first, after) = slabs::slab::take_slab(links, heads, counters, total);
     slabs::slab::write_owners(
         owners,
         node,
-        taken.first as usize,
+        first as usize,
         inlets as usize,
         outlets as usize,
     );
-    taken
+    (first, after)
 }
 
 // A new step takes a slot and, where it has ports, a slab of just as many.
-pub fn add(
-    slots: &mut [u32],
-    links: &mut [u32],
-    owners: &mut [u32],
-    heads: &mut [u32],
-    counters: Counters,
-    inlets: u32,
-    outlets: u32,
-) -> Counters
-    requires { Fit (store_of slots.old links.old owners.old heads.old counters) × CanAdd (store_of slots.old links.old owners.old heads.old counters) inlets outlets }
-    ensures { StoreIs (added (store_of slots.old links.old owners.old heads.old counters) inlets outlets) slots.new links.new owners.new heads.new result }
+pub fn add(tables: &mut Tables<'_>, counters: Counters, inlets: u32, outlets: u32) -> Counters
+    requires { Fit (store_in tables.old counters) × CanAdd (store_in tables.old counters) inlets outlets }
+    ensures memory { SameMemory tables.old tables.new }
+    ensures store { StoreIn (added (store_in tables.old counters) inlets outlets) tables.new result }
 {
-    let slot = free_slots::take_slot(slots, counters);
-    let node = slot.node;
-    let marked = slot.counters;
-    let taken = take_ports(links, owners, heads, marked, node, inlets, outlets);
+    let (node, marked) = free_slots::take_slot(tables.slots, counters);
+    let (first, after) = take_ports(
+        tables.links,
+        tables.owners,
+        tables.heads,
+        marked,
+        node,
+        inlets,
+        outlets,
+    );
     let meta = NodeMeta {
-        first: taken.first,
+        first,
         inlets,
         outlets,
         capacity: inlets + outlets,
     };
-    slabs::node_entry::write_slot(slots, node as usize, NodeEntry::Node(meta));
-    let after = taken.counters;
+    slabs::node_entry::write_slot(tables.slots, node as usize, NodeEntry::Node(meta));
     after.node_counted(inlets + outlets)
 }
 
 // A removed step's slot becomes the head of the free chain, and its slab is freed with all its wires.
-pub fn remove(
-    slots: &mut [u32],
-    links: &mut [u32],
-    owners: &mut [u32],
-    heads: &mut [u32],
-    counters: Counters,
-    node: u32,
-    meta: NodeMeta,
-) -> Counters
-    requires { Fit (store_of slots.old links.old owners.old heads.old counters) × (node < counters.nodemark) × (node_entry slots.old node ≡ Node meta) }
-    ensures { StoreIs (removed (store_of slots.old links.old owners.old heads.old counters) node meta) slots.new links.new owners.new heads.new result }
+pub fn remove(tables: &mut Tables<'_>, counters: Counters, node: u32, meta: NodeMeta) -> Counters
+    requires { Fit (store_in tables.old counters) × (node < counters.nodemark) × (node_entry tables.old.slots.now node ≡ Node meta) }
+    ensures memory { SameMemory tables.old tables.new }
+    ensures store { StoreIn (removed (store_in tables.old counters) node meta) tables.new result }
 {
-    let after = free_slots::free_slot(slots, counters, node).node_uncounted();
+    let after = free_slots::free_slot(tables.slots, counters, node).node_uncounted();
     if meta.capacity == 0 {
         return after;
     }
-    let wires = slabs::slab::free_slab(links, owners, heads, meta.first, meta.capacity);
+    let wires = slabs::slab::free_slab(
+        tables.links,
+        tables.owners,
+        tables.heads,
+        meta.first,
+        meta.capacity,
+    );
     after.slab_freed(meta.inlets + meta.outlets, wires)
 }

@@ -2,8 +2,8 @@
 ghost use Rattle.std.specs.Prelude.{◌≡◌};
 ghost use Rattle.edits.specs.Swap.{swap_answer, CanArrive, Arrived, is_free, stays, CanSwap, Swapped};
 
-use crate::answer::Answer;
-use crate::free_slots;
+use crate::answer::{Answer, Refusal};
+use crate::free_slots::{NEXT, PREVIOUS, set_neighbour};
 use slabs::counters::Counters;
 use slabs::node_entry::NodeEntry;
 
@@ -12,16 +12,16 @@ pub fn swap_answer(mark: u32, a: u32, b: u32) -> Answer
     ensures { result ≡ swap_answer mark a b }
 {
     if mark <= a {
-        return Answer::NoNode(a);
+        return Err(Refusal::NoNode(a));
     }
     if mark <= b {
-        return Answer::NoNode(b);
+        return Err(Refusal::NoNode(b));
     }
-    Answer::Done(0, 0, 0)
+    Ok((0, 0, 0))
 }
 
 // An entry arrives at a slot: the owner words of a live one follow, and the neighbours or the head of a free one.
-#[tactic(auto, unfolding(crate::specs::Swap::arrived_slots, crate::specs::Swap::arrived_owners, crate::specs::Swap::arrived_counters))]
+#[tactic(auto, unfolding(crate::specs::FreeSlots::set_previous, crate::specs::FreeSlots::set_next, crate::specs::Swap::arrived_slots, crate::specs::Swap::arrived_owners, crate::specs::Swap::arrived_counters))]
 fn arrive(
     slots: &mut [u32],
     owners: &mut [u32],
@@ -45,8 +45,8 @@ fn arrive(
             counters
         }
         NodeEntry::Free { previous, next } => {
-            free_slots::set_next(slots, previous, node + 1);
-            free_slots::set_previous(slots, next, node + 1);
+            set_neighbour::<NEXT>(slots, previous, node + 1);
+            set_neighbour::<PREVIOUS>(slots, next, node + 1);
             if previous == 0 {
                 return counters.free_slot_moved(node + 1);
             }
@@ -58,28 +58,14 @@ fn arrive(
 fn is_free(entry: NodeEntry) -> bool
     ensures { result ≡ is_free entry }
 {
-    if let NodeEntry::Free {
-        previous: _,
-        next: _,
-    } = entry
-    {
-        true
-    } else {
-        false
-    }
+    matches!(entry, NodeEntry::Free { .. })
 }
 
 // A slot with itself, and two free ones, stay put.
 fn stays_put(a: u32, b: u32, here: NodeEntry, there: NodeEntry) -> bool
     ensures { result ≡ stays a b here there }
 {
-    if a == b {
-        return true;
-    }
-    if is_free(here) {
-        return is_free(there);
-    }
-    false
+    a == b || is_free(here) && is_free(there)
 }
 
 // Exchanges two slots below the mark.

@@ -16,6 +16,8 @@ pub fn read_full<R: Read>(input: &mut R, buf: &mut [u8]) -> io::Result<usize>
     ensures lost { OnErr result ((n : ℕ) × (n ≤ length buf.new) × Consumes (R.remaining input.old) (R.remaining input.new) (take n buf.new)) }
 {
     let mut done = 0;
+    // std's `read_to_end` wants a vector on the heap, its `read_exact` takes a short input for an error, and its `copy` tries again after
+    // a signal.
     while done < buf.len() {
         let n = input.read(&mut buf[done..])?;
         if n == 0 {

@@ -16,9 +16,9 @@ use Rattle.slabs.specs.declared.node_entry.NodeEntry.TheVariants.{Free, Node}
 use Rattle.slabs.specs.declared.node_entry.NodeMeta.{NodeMeta}
 use Rattle.edits.specs.Store.{Store, node_at, on_node}
 use Rattle.edits.specs.Steps.{most}
-use Rattle.edits.specs.Answer.{is_done}
-use Rattle.edits.specs.declared.answer.Answer.{Answer}
-use Rattle.edits.specs.declared.answer.Answer.TheVariants.{Done, NoNode, TooManyPorts, SlabTooLarge, NoSlab, LogFull}
+use Rattle.edits.specs.Answer.{is_done, Answer, done}
+use Rattle.edits.specs.declared.answer.Refusal.TheVariants.{NoNode, TooManyPorts, SlabTooLarge, NoSlab, LogFull}
+use Rattle.std.specs.Prelude.{Err}
 use Rattle.renumber.specs.Records.{record_width}
 use Rattle.renumber.specs.Resize.{is_idle, is_in_place, new_size, records_needed, log_answer, change_answer, resize_answer}
 use Rattle.renumber.specs.Room.{LogFits, CanChange}
@@ -39,16 +39,16 @@ pub record Granted (room : ℕ) (heads : List ℕ) (mark left : ℕ) (ch : Chang
   pub enough : records_needed ch ≤ left
   pub sized : is_in_place ch ≡ false → new_size ch ≤ length heads
   pub slab : is_in_place ch ≡ false → at_hand heads mark room (new_size ch) ≡ true
-  pub answer : change_answer room heads mark left ch ≡ Done (records_needed ch) 0 0
+  pub answer : change_answer room heads mark left ch ≡ done (records_needed ch) 0 0
 
 -- Where the log does not refuse, enough records remain, and the answer says how many are written.
 log_done : (left : ℕ) (ch : Change) → is_done (log_answer left ch) ≡ true
-    → (records_needed ch ≤ left) × (log_answer left ch ≡ Done (records_needed ch) 0 0)
+    → (records_needed ch ≤ left) × (log_answer left ch ≡ done (records_needed ch) 0 0)
 unfolding log_answer
 log_done left ch d = go (ltb left (records_needed ch)) refl d
   where
-    go : (t : Bool) → ltb left (records_needed ch) ≡ t → is_done (pick t LogFull (Done (records_needed ch) 0 0)) ≡ true
-        → (records_needed ch ≤ left) × (pick t LogFull (Done (records_needed ch) 0 0) ≡ Done (records_needed ch) 0 0)
+    go : (t : Bool) → ltb left (records_needed ch) ≡ t → is_done (pick t (Err LogFull) (done (records_needed ch) 0 0)) ≡ true
+        → (records_needed ch ≤ left) × (pick t (Err LogFull) (done (records_needed ch) 0 0) ≡ done (records_needed ch) 0 0)
     go true e d = absurd (false≢true d)
     go false e d = (ltb-false left (records_needed ch) e, refl)
 
@@ -59,18 +59,18 @@ unfolding change_answer
 change_granted room heads mark left ch idle d = at_place (is_in_place ch) refl (rw idle at d)
   where
     at_slab : (t : Bool) → is_in_place ch ≡ false → ltb (length heads) (new_size ch) ≡ false → at_hand heads mark room (new_size ch) ≡ t
-        → is_done (pick t (log_answer left ch) NoSlab) ≡ true → Granted room heads mark left ch
+        → is_done (pick t (log_answer left ch) (Err NoSlab)) ≡ true → Granted room heads mark left ch
     at_slab true p z e d =
         record { enough = (log_done left ch d).0; sized = λ f. ltb-false _ _ z; slab = λ f. e; answer = rw (idle, p, z, e) (log_done left ch d).1 }
     at_slab false p z e d = absurd (false≢true d)
 
     at_size : (t : Bool) → is_in_place ch ≡ false → ltb (length heads) (new_size ch) ≡ t
-        → is_done (pick t SlabTooLarge (pick (at_hand heads mark room (new_size ch)) (log_answer left ch) NoSlab)) ≡ true → Granted room heads mark left ch
+        → is_done (pick t (Err SlabTooLarge) (pick (at_hand heads mark room (new_size ch)) (log_answer left ch) (Err NoSlab))) ≡ true → Granted room heads mark left ch
     at_size true p e d = absurd (false≢true d)
     at_size false p e d = at_slab (at_hand heads mark room (new_size ch)) p e refl d
 
     at_place : (t : Bool) → is_in_place ch ≡ t
-        → is_done (pick t (log_answer left ch) (pick (ltb (length heads) (new_size ch)) SlabTooLarge (pick (at_hand heads mark room (new_size ch)) (log_answer left ch) NoSlab))) ≡ true
+        → is_done (pick t (log_answer left ch) (pick (ltb (length heads) (new_size ch)) (Err SlabTooLarge) (pick (at_hand heads mark room (new_size ch)) (log_answer left ch) (Err NoSlab)))) ≡ true
         → Granted room heads mark left ch
     at_place true e d =
         record { enough = (log_done left ch d).0; sized = λ f. absurd (true≢false (sym e ∙ f)); slab = λ f. absurd (true≢false (sym e ∙ f)); answer = rw (idle, e) (log_done left ch d).1 }
@@ -87,11 +87,11 @@ change_done s log to ch fits below is few_inlets few_outlets idle d =
 
 -- And the answer says how many records it writes.
 pub change_says : (room : ℕ) (heads : List ℕ) (mark left : ℕ) (ch : Change) → is_idle ch ≡ false
-    → is_done (change_answer room heads mark left ch) ≡ true → change_answer room heads mark left ch ≡ Done (records_needed ch) 0 0
+    → is_done (change_answer room heads mark left ch) ≡ true → change_answer room heads mark left ch ≡ done (records_needed ch) 0 0
 change_says room heads mark left ch idle d = (change_granted room heads mark left ch idle d).answer
 
 -- A change that is none is answered by done, with no record.
-pub change_idle : (room : ℕ) (heads : List ℕ) (mark left : ℕ) (ch : Change) → is_idle ch ≡ true → change_answer room heads mark left ch ≡ Done 0 0 0
+pub change_idle : (room : ℕ) (heads : List ℕ) (mark left : ℕ) (ch : Change) → is_idle ch ≡ true → change_answer room heads mark left ch ≡ done 0 0 0
 unfolding change_answer
 change_idle room heads mark left ch idle = rw idle
 
@@ -107,7 +107,7 @@ pub record Resizes (slots : List ℕ) (room : ℕ) (heads : List ℕ) (c : Count
 -- the answer by what the slot says
 abbrev on_entry : ℕ → List ℕ → Counters → ℕ → ℕ → ℕ → ℕ → NodeEntry → Answer
 on_entry room heads c left node inlets outlets entry =
-    on_node entry (λ m. change_answer room heads c.portmark left (record { node = node; meta = m; inlets = inlets; outlets = outlets })) (NoNode node)
+    on_node entry (λ m. change_answer room heads c.portmark left (record { node = node; meta = m; inlets = inlets; outlets = outlets })) (Err (NoNode node))
 
 -- So it is where the answer is done.
 pub resize_done : (slots : List ℕ) (room : ℕ) (heads : List ℕ) (c : Counters) (left node inlets outlets : ℕ)
@@ -128,12 +128,12 @@ resize_done slots room heads c left node inlets outlets d = at_inlets (ltb most 
     at_node (Free previous next) e i o d = absurd (false≢true d)
 
     at_outlets : (t : Bool) → ltb most inlets ≡ false → ltb most outlets ≡ t
-        → is_done (pick t TooManyPorts (on_entry room heads c left node inlets outlets (node_at slots c.nodemark node))) ≡ true → Resizes slots room heads c left node inlets outlets
+        → is_done (pick t (Err TooManyPorts) (on_entry room heads c left node inlets outlets (node_at slots c.nodemark node))) ≡ true → Resizes slots room heads c left node inlets outlets
     at_outlets true i e d = absurd (false≢true d)
     at_outlets false i e d = at_node (node_at slots c.nodemark node) refl i e d
 
     at_inlets : (t : Bool) → ltb most inlets ≡ t
-        → is_done (pick t TooManyPorts (pick (ltb most outlets) TooManyPorts (on_entry room heads c left node inlets outlets (node_at slots c.nodemark node)))) ≡ true
+        → is_done (pick t (Err TooManyPorts) (pick (ltb most outlets) (Err TooManyPorts) (on_entry room heads c left node inlets outlets (node_at slots c.nodemark node)))) ≡ true
         → Resizes slots room heads c left node inlets outlets
     at_inlets true e d = absurd (false≢true d)
     at_inlets false e d = at_outlets (ltb most outlets) e refl d

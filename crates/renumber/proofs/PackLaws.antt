@@ -3,6 +3,7 @@
 use Prim.Native.Nat.{ℕ, suc, zero, ◌+◌, ◌*◌, ◌≤◌, ◌<◌}
 use native.Mathlib.Omega.{arith}
 use native.Mathlib.Decide.{ℕ_discrete}
+use native.Mathlib.Numerals.{add-one}
 use borrow.Author.Tests.{eq-eqb, ne_eqb}
 use lib.ListN.{length, get_or, set, length-set, length-append}
 use lib.Seq.{get_or-set_other}
@@ -14,19 +15,21 @@ use Rattle.slabs.specs.Choice.{pick}
 use Rattle.slabs.specs.Sums.{sum}
 use Rattle.slabs.specs.PortEntry.{Live, node_of, port_entry}
 use Rattle.slabs.specs.Links.{Inside}
-use Rattle.slabs.specs.declared.port_entry.PortEntry.TheVariants as port
+use Rattle.std.specs.Prelude.{Some, None}
+use Rattle.slabs.specs.declared.port_entry.PortMeta.{PortMeta}
 use Rattle.slabs.specs.Slab.{owners_written}
 use Rattle.slabs.specs.NodeEntry.{width, slot_word, node_entry, set_entry}
 use Rattle.slabs.specs.declared.node_entry.NodeMeta.{NodeMeta}
 use Rattle.slabs.specs.declared.node_entry.NodeEntry.{NodeEntry}
 use Rattle.slabs.specs.declared.node_entry.NodeEntry.TheVariants.{Free, Node}
+use Rattle.std.proofs.lemmas.Option.{same_Some}
 use Rattle.slabs.proofs.EntryLaws.{word_apart, set_entry-length, word_above, entry_ext, entry_same, entry_other}
 use Rattle.slabs.proofs.SumLaws.{sum_ext}
 use Rattle.slabs.proofs.FillLaws.{written_length}
 use Rattle.edits.specs.Store.{on_node}
 use Rattle.edits.specs.Counts.{some, live_slots, live_ports}
 use Rattle.edits.specs.Fit.{SlotFits, SlotsFit}
-use Rattle.renumber.specs.Records.{Rec, rec, set_record}
+use Rattle.renumber.specs.Records.{Rec, rec, set_record, logged}
 use Rattle.renumber.specs.Moves.{moved}
 use Rattle.renumber.specs.Compact.{packed_slots, renamed_owners, node_records, packed_links, packed_owners, followed, followed_slots, port_records, slab_dropped, slabs_dropped}
 use Rattle.renumber.specs.Packing.{PackedNodes, PackedPorts}
@@ -50,16 +53,16 @@ on_equal P x y a b h k = go (ℕ_discrete x y)
     go (no d) = rw (ne_eqb x y d) (k d)
 
 -- An owner word that says a port is not 0 and names its node,
-pub port_named : (w node direction : ℕ) → port_entry w ≡ port.Port node direction → (w ≡ 0 → ⊥) × (node_of w ≡ node)
+pub port_named : (w : ℕ) (m : PortMeta) → port_entry w ≡ Some m → (w ≡ 0 → ⊥) × (node_of w ≡ m.node)
 unfolding port_entry
-port_named w node direction e = go (ℕ_discrete w 0)
+port_named w m e = go (ℕ_discrete w 0)
   where
-    go : Dec (w ≡ 0) → (w ≡ 0 → ⊥) × (node_of w ≡ node)
+    go : Dec (w ≡ 0) → (w ≡ 0 → ⊥) × (node_of w ≡ m.node)
     go (yes z) = absurd (let c : ◌≡◌ {A = ℕ} 0 1 = cc (rw (eq-eqb w 0 z) at e) in omega arith)
-    go (no d) = (d, cc (rw (ne_eqb w 0 d) at e))
+    go (no d) = (d, ap (λ (n : PortMeta). n.node) (same_Some _ _ (rw (ne_eqb w 0 d) at e)))
 
 -- and one that says none is 0.
-pub port_none : (w : ℕ) → port_entry w ≡ port.Free → w ≡ 0
+pub port_none : (w : ℕ) → port_entry w ≡ None → w ≡ 0
 unfolding port_entry
 port_none w e = go (ℕ_discrete w 0)
   where
@@ -183,6 +186,11 @@ packed_slots_above slots (suc k) i h =
 pub packed_slots_entry : (slots : List ℕ) (k j : ℕ) → k ≤ j → node_entry (packed_slots slots k) j ≡ node_entry slots j
 packed_slots_entry slots k j h = entry_ext (packed_slots slots k) slots j (λ i b. packed_slots_above slots k (width * j + i) (omega arith))
 
+-- Before the first turn nothing has moved.
+pub nodes_none : (slots owners log : List ℕ) (to : LogPlace) → PackedNodes slots owners log 0 to slots owners log 0
+unfolding packed_slots renamed_owners node_records logged live_slots sum
+nodes_none slots owners log to = record { counted = refl; slots_after = refl; owners_after = refl; log_after = refl }
+
 module _ {slots owners log : List ℕ} {k : ℕ} {to : LogPlace} {slots' owners' log' : List ℕ} {live : ℕ} (done : PackedNodes slots owners log k to slots' owners' log' live) where
   -- Up to turn k the slots,
   pub nodes_slots : length slots' ≡ length slots
@@ -200,10 +208,16 @@ module _ {slots owners log : List ℕ} {k : ℕ} {to : LogPlace} {slots' owners'
   pub nodes_entry : node_entry slots' k ≡ node_entry slots k
   nodes_entry = ap (λ (t : List ℕ). node_entry t k) done.slots_after ∙ packed_slots_entry slots k k (omega arith)
 
+  pub nodes_read : (entry : NodeEntry) → entry ≡ node_entry slots' k → node_entry slots k ≡ entry
+  nodes_read entry read = sym nodes_entry ∙ sym read
+
   -- A turn at a free slot changes nothing,
-  pub nodes_free : (previous next : ℕ) → node_entry slots k ≡ Free previous next → PackedNodes slots owners log (suc k) to slots' owners' log' live
+  pub nodes_free : (previous next : ℕ) → Free previous next ≡ node_entry slots' k → PackedNodes slots owners log (k + 1) to slots' owners' log' live
   unfolding packed_slots renamed_owners node_records
-  nodes_free previous next e =
+  nodes_free previous next read =
+      let e : node_entry slots k ≡ Free previous next = nodes_read _ read in
+      rw
+      add-one
       record {
         counted = done.counted ∙ sym (free_slot slots k previous next e);
         slots_after = rw e done.slots_after;
@@ -212,10 +226,13 @@ module _ {slots owners log : List ℕ} {k : ℕ} {to : LogPlace} {slots' owners'
       }
 
   -- and at a live one it carries its slot down, with its owner words and a record.
-  pub nodes_live : (m : NodeMeta) → node_entry slots k ≡ Node m
-      → PackedNodes slots owners log (suc k) to (set_entry slots' live (Node m)) (owners_written owners' live m.first m.inlets m.outlets) (set_record log' (to.at + live) to.place (rec 4 k live)) (live + 1)
+  pub nodes_live : (m : NodeMeta) → Node m ≡ node_entry slots' k
+      → PackedNodes slots owners log (k + 1) to (set_entry slots' live (Node m)) (owners_written owners' live m.first m.inlets m.outlets) (set_record log' (to.at + live) to.place (rec 4 k live)) (live + 1)
   unfolding packed_slots renamed_owners node_records
-  nodes_live m e =
+  nodes_live m read =
+      let e : node_entry slots k ≡ Node m = nodes_read _ read in
+      rw
+      add-one
       record {
         counted = rw (live_slot slots k m e, done.counted);
         slots_after = rw (e, done.slots_after, done.counted);
@@ -369,6 +386,10 @@ fits_wider slots mark heads room heads' room' a b h k m l e =
     let f : SlotFits heads room m = h k m l e in
     record { few_inlets = f.few_inlets; few_outlets = f.few_outlets; fit = f.fit; sized = omega arith; ends = omega arith }
 
+-- Slots that fit below a mark fit below a lower one.
+pub fits_below : (slots : List ℕ) (low mark heads room : ℕ) → low ≤ mark → SlotsFit slots mark heads room → SlotsFit slots low heads room
+fits_below slots low mark heads room b h k m l e = h k m (omega arith) e
+
 -- An entry that fits, written to a table of slots that fit, leaves slots that fit.
 pub written_fit : (slots : List ℕ) (k : ℕ) (n : NodeMeta) (mark heads room : ℕ) → width * mark ≤ length slots → SlotFits heads room n
     → SlotsFit slots mark heads room → SlotsFit (set_entry slots k (Node n)) mark heads room
@@ -473,6 +494,11 @@ slabs_dropped_fit slots zero mark heads room b h = h
 slabs_dropped_fit slots (suc k) mark heads room b h =
     slab_dropped_fit (slabs_dropped slots k) k mark heads room (omega (arith, slabs_dropped-length slots k)) (slabs_dropped_fit slots k mark heads room b h)
 
+-- Before the first turn nothing has moved.
+pub ports_none : (slots links owners log : List ℕ) (to : LogPlace) → PackedPorts slots links owners log 0 to slots links owners log 0
+unfolding packed_links packed_owners followed_slots port_records logged live_ports sum
+ports_none slots links owners log to = record { counted = refl; slots_after = refl; links_after = refl; owners_after = refl; log_after = refl }
+
 module _ {slots links owners log : List ℕ} {p : ℕ} {to : LogPlace} {slots' links' owners' log' : List ℕ} {live : ℕ} (done : PackedPorts slots links owners log p to slots' links' owners' log' live) where
   -- Up to turn p the slots,
   pub ports_slots : length slots' ≡ length slots
@@ -494,11 +520,18 @@ module _ {slots links owners log : List ℕ} {p : ℕ} {to : LogPlace} {slots' l
   pub ports_word : get_or owners' p 0 ≡ get_or owners p 0
   ports_word = ap (λ (t : List ℕ). get_or t p 0) done.owners_after ∙ packed_owners_above owners p p (omega arith)
 
+  -- So a port that turn p reads was live at the start, and named the same step,
+  pub ports_read : (m : PortMeta) → Some m ≡ port_entry (get_or owners' p 0) → Live owners p × (node_of (get_or owners p 0) ≡ m.node)
+  ports_read m read = port_named (get_or owners p 0) m (ap port_entry (sym ports_word) ∙ sym read)
+
   -- A turn at a free port changes nothing,
-  pub ports_free : get_or owners p 0 ≡ 0 → PackedPorts slots links owners log (suc p) to slots' links' owners' log' live
+  pub ports_free : None ≡ port_entry (get_or owners' p 0) → PackedPorts slots links owners log (p + 1) to slots' links' owners' log' live
   unfolding packed_links packed_owners followed_slots port_records
-  ports_free e =
+  ports_free read =
+      let e : get_or owners p 0 ≡ 0 = port_none (get_or owners p 0) (ap port_entry (sym ports_word) ∙ sym read) in
       let t : eqb (get_or owners p 0) 0 ≡ true = eq-eqb _ _ e in
+      rw
+      add-one
       record {
         counted = done.counted ∙ sym (free_port owners p e);
         slots_after = rw t done.slots_after;
@@ -508,13 +541,16 @@ module _ {slots links owners log : List ℕ} {p : ℕ} {to : LogPlace} {slots' l
       }
 
   -- and at a live one it carries its port down, with its owner word, its step's slot and a record.
-  pub ports_live : Live owners p
-      → PackedPorts slots links owners log (suc p) to (followed slots' (node_of (get_or owners p 0)) p live) (moved links' p live) (set owners' live (get_or owners p 0)) (set_record log' (to.at + live) to.place (rec 3 p live)) (live + 1)
+  pub ports_live : (m : PortMeta) → Some m ≡ port_entry (get_or owners' p 0)
+      → PackedPorts slots links owners log (p + 1) to (followed slots' m.node p live) (moved links' p live) (set owners' live (get_or owners' p 0)) (set_record log' (to.at + live) to.place (rec 3 p live)) (live + 1)
   unfolding packed_links packed_owners followed_slots port_records
-  ports_live d =
-      let t : eqb (get_or owners p 0) 0 ≡ false = ne_eqb _ _ d in
+  ports_live m read =
+      let named = ports_read m read in
+      let t : eqb (get_or owners p 0) 0 ≡ false = ne_eqb _ _ named.0 in
+      rw
+      (add-one, ← named.1, ports_word)
       record {
-        counted = rw (live_port owners p d, done.counted);
+        counted = rw (live_port owners p named.0, done.counted);
         slots_after = rw (t, done.slots_after, done.counted);
         links_after = rw (t, done.links_after, done.counted);
         owners_after = rw (t, done.owners_after, done.counted);
@@ -523,3 +559,8 @@ module _ {slots links owners log : List ℕ} {p : ℕ} {to : LogPlace} {slots' l
             (t, done.log_after, done.counted, ← port_records-length owners p)
             (sym (logged_snoc log to.at to.place (port_records owners p) (rec 3 p (length (port_records owners p)))));
       }
+
+-- What a compaction needs of the slots, or of the ports, that it has packed.
+pub ruleset node_laws = (nodes_slots, live_slots_le)
+
+pub ruleset port_laws = (ports_slots, ports_links, ports_owners, live_ports_le)

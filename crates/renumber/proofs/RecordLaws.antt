@@ -2,6 +2,7 @@
 use Prim.Native.Nat.{ℕ, suc, zero, ◌+◌}
 use native.Mathlib.Omega.{arith}
 use native.Mathlib.Nat.{add-zero}
+use native.Mathlib.Numerals.{add-one}
 use lib.ListN.{length, length-set, length-append}
 use mathlib.Core.List.{List, [], ◌∷◌, ◌++◌}
 use mathlib.Core.Path.{◌≡◌, refl, ◌∙◌}
@@ -46,8 +47,16 @@ pub logged_snoc : (log : List ℕ) (at place : ℕ) (rs : List Rec) (r : Rec)
 unfolding logged
 logged_snoc log at place rs r = logged-append log at place rs (r ∷ [])
 
--- And so does record n of a list.
+-- No record of a list leaves the log as it is,
+pub logged_none : (log : List ℕ) (at place : ℕ) (f : ℕ → Rec) → logged log at place (listed f 0) ≡ log
+unfolding listed logged
+logged_none log at place f = refl
+
+-- and record n of it stands after those before.
 pub logged_next : (log : List ℕ) (at place : ℕ) (f : ℕ → Rec) (n : ℕ)
-    → logged log at place (listed f (suc n)) ≡ set_record (logged log at place (listed f n)) (at + n) place (f n)
+    → logged log at place (listed f (n + 1)) ≡ set_record (logged log at place (listed f n)) (at + n) place (f n)
 unfolding listed
-logged_next log at place f n = logged_snoc log at place (listed f n) (f n) ∙ rw (listed-length f n)
+logged_next log at place f n = rw add-one (logged_snoc log at place (listed f n) (f n) ∙ rw (listed-length f n))
+
+-- What a loop that records needs of the log that it has written.
+pub ruleset log_laws = (logged-length, logged_none, logged_next)

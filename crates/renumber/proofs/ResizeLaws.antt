@@ -1,5 +1,5 @@
 -- Laws of resize: the size of the new slab, how many ports go and how many stay, and what each step leaves of a table's shape.
-use Prim.Native.Nat.{ℕ, suc, zero, ◌+◌, ◌-◌, ◌*◌, ◌^◌, ◌≤◌, ◌<◌, min}
+use Prim.Native.Nat.{ℕ, suc, zero, ◌+◌, ◌-◌, ◌*◌, ◌/◌, ◌^◌, ◌≤◌, ◌<◌, max}
 use mathlib.Core.Path.{◌≡◌, refl, sym, ◌∙◌}
 use mathlib.Core.Bool.{Bool, true, false, false≢true}
 use mathlib.Core.List.{List, ◌++◌}
@@ -9,6 +9,7 @@ use native.Mathlib.Nat.{pow-suc, pow-le-pow_right, one-le-pow}
 use lib.ListN.{length, get_or, set, length-set, length-append}
 use lib.Dec.{eqb, ltb, leb}
 use borrow.Author.Tests.{ne_eqb, lt-ltb, le-ltb, leb-true, ltb-true, eqb-false}
+use Rattle.std.specs.Int.{IsPowerOfTwo}
 use Rattle.slabs.specs.Choice.{pick}
 use Rattle.slabs.specs.Links.{Inside}
 use Rattle.slabs.specs.Slab.{head_of, at_hand, taken_first, taken_links, taken_heads}
@@ -104,6 +105,20 @@ slab_size_least n k h =
     more : (size : ℕ) → size < n → (size ≤ 2 ^ k) × (i : ℕ) × (size ≡ 2 ^ i) → (size * 2 ≤ 2 ^ k) × (i : ℕ) × (size * 2 ≡ 2 ^ i)
     more size l p = (rw p.2 (power_half p.1 k (omega (arith, p.2))), suc p.1, rw (p.2, pow-suc))
 
+-- A power of two that is n or more, and half of which is less than n, or than 1, is that size.
+pub next_power : (n power : ℕ) → n ≤ 32768 → IsPowerOfTwo power → n ≤ power → power / 2 < max 1 n → power ≡ slab_size n
+next_power n power few is covers tight = go (dec_lt (slab_size n) power)
+  where
+    least : slab_size n ≤ power
+    least = rw is.1 (slab_size_least n is.0 (omega (arith, is.1)))
+
+    go : Dec (slab_size n < power) → power ≡ slab_size n
+    go (yes less) =
+        let half : slab_size n * 2 ≤ power =
+        rw ((slab_size_power n).1, is.1) (power_half (slab_size_power n).0 is.0 (omega (arith, (slab_size_power n).1, is.1))) in
+        absurd (omega (arith, slab_size_covers n few, slab_size_some n))
+    go (no more) = omega (arith, least)
+
 -- So it is 1 or less than twice n.
 pub slab_size_tight : (n : ℕ) → 1 < slab_size n → slab_size n < 2 * n
 slab_size_tight n = grown_each (λ size. 1 < size → size < 2 * n) n (λ l. omega arith) (λ size l h m. omega arith) 15
@@ -118,10 +133,6 @@ in_place_fits ch h = go (eqb (ch.inlets + ch.outlets) 0) refl h
         → (1 ≤ ch.inlets + ch.outlets) × (ch.inlets + ch.outlets < ch.meta.capacity)
     go true e d = absurd (false≢true d)
     go false e d = (omega (arith, eqb-false (ch.inlets + ch.outlets) 0 e), ltb-true _ _ d)
-
--- Of so many ports those that are kept and those that are removed are all.
-pub kept_removed : (before after : ℕ) → min before after + (before - after) ≡ before
-kept_removed before after = omega arith
 
 -- In place the removed ports are recorded, and the kept outlets, which move,
 pub records_in_place : (ch : Change) → is_in_place ch ≡ true → records_needed ch ≡ inlets_removed ch + outlets_removed ch + outlets_kept ch

@@ -10,7 +10,6 @@ use Rattle.slabs.specs.NodeEntry.{width}
 use Rattle.slabs.specs.Counters.{links_uncounted, ports_recounted}
 use Rattle.slabs.specs.Slab.{CanTake, TookSlab}
 use Rattle.slabs.specs.declared.counters.Counters.{Counters}
-use Rattle.slabs.specs.declared.slab.Taken.{Taken}
 use Rattle.slabs.proofs.FillLaws.{written_length}
 use Rattle.edits.specs.Store.{Store}
 use Rattle.edits.specs.Fit.{Fit, SlotFits}
@@ -51,20 +50,23 @@ moved_both ins outs ins-logged outs-logged = record {
 }
 
 module _ {slots links owners heads log : List ℕ} {c : Counters} {to : LogPlace} {ch : Change}
-    (can : CanReallocate slots links owners heads log c to ch) where
+    (can : CanReallocate slots links owners heads log c to ch) {size : ℕ} (is : size ≡ new_size ch) where
   -- The new slab can be taken.
-  pub can_take : CanTake links heads c (new_size ch)
-  can_take = record {
+  pub can_take : CanTake links heads c size
+  can_take = rw is (record {
     some = slab_size_some _;
     sized = can.sized;
     small = can.small;
     head_inside = head_room _ (new_size ch) _ (slab_size_some _) can.head_inside;
     had = can.slab;
-  }
+  })
 
-  module _ {links' heads' : List ℕ} {taken : Taken} (took : TookSlab links heads c (new_size ch) links' heads' taken) where
+  module _ {links' heads' : List ℕ} {taken : ℕ} {after : Counters} (took-size : TookSlab links heads c size links' heads' taken after) where
+    took : TookSlab links heads c (new_size ch) links' heads' taken after
+    took = rw is at took-size
+
     -- The changed step's ports lie in it.
-    pub taken_holds : taken.first + ch.inlets + ch.outlets ≤ length links
+    pub taken_holds : taken + ch.inlets + ch.outlets ≤ length links
     taken_holds =
         rw took.first
         (omega (arith, can.small_change, taken_room heads c.portmark (length links) (new_size ch) can.slab can.head_inside, slab_size_covers (ch.inlets + ch.outlets) (omega (arith, can.small_change))))
@@ -73,7 +75,7 @@ module _ {slots links owners heads log : List ℕ} {c : Counters} {to : LogPlace
     taken_length = ap length took.links_after ∙ taken_links-length links heads (new_size ch)
 
     -- The kept ports can move there.
-    pub can_move_kept : CanMoveKept links' log to ch taken.first
+    pub can_move_kept : CanMoveKept links' log to ch taken
     can_move_kept = record {
       small_change = can.small_change;
       from_inside = omega (arith, taken_length, can.ends);
@@ -83,10 +85,10 @@ module _ {slots links owners heads log : List ℕ} {c : Counters} {to : LogPlace
       recorded = can.recorded;
     }
 
-    module _ {owners' links'' log' : List ℕ} (owned : owners' ≡ changed_owners owners ch taken.first)
-        (kept : MovedKept links' log to ch taken.first links'' log') where
+    module _ {owners' links'' log' : List ℕ} (owned : owners' ≡ changed_owners owners ch taken)
+        (kept : MovedKept links' log to ch taken links'' log') where
       moved_length : length links'' ≡ length links
-      moved_length = ap length kept.links_after ∙ moved_into-length links' ch taken.first ∙ taken_length
+      moved_length = ap length kept.links_after ∙ moved_into-length links' ch taken ∙ taken_length
 
       -- Then the old slab can be freed.
       pub can_free_old : CanFreeOld links'' owners' heads' ch.meta
@@ -95,17 +97,17 @@ module _ {slots links owners heads log : List ℕ} {c : Counters} {to : LogPlace
         inside = omega (arith, moved_length, can.ends);
         owned = rw owned (rw written_length (omega (arith, can.ends, can.equal)));
         small = omega (arith, moved_length, can.small);
-        links_inside = rw kept.links_after (moved_into_inside links' ch taken.first can_move_kept.to_inside can_move_kept.links_inside);
+        links_inside = rw kept.links_after (moved_into_inside links' ch taken can_move_kept.to_inside can_move_kept.links_inside);
       }
 
       -- And that is all of it.
-      pub reallocated_parts : {slots' links''' owners'' heads'' : List ℕ} → slots' ≡ changed_slots slots ch taken.first (new_size ch)
+      pub reallocated_parts : {slots' links''' owners'' heads'' : List ℕ} → slots' ≡ changed_slots slots ch taken size
           → FreedOld links'' owners' heads' ch.meta links''' owners'' heads''
-          → Reallocated slots links owners heads log c to ch slots' links''' owners'' heads'' log' taken.counters
+          → Reallocated slots links owners heads log c to ch slots' links''' owners'' heads'' log' after
       unfolding reallocated_links reallocated_records
       reallocated_parts written freed = record {
         counters_after = took.counters;
-        slots_after = rw (written, took.first);
+        slots_after = rw (written, is, took.first);
         links_after = rw (freed.links_after, kept.links_after, took.links_after, took.heads_after, took.first);
         owners_after = rw (freed.owners_after, owned, took.first);
         heads_after = rw (freed.heads_after, took.heads_after);

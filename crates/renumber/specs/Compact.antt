@@ -10,12 +10,14 @@ use Rattle.edits.specs.Store.{Store, on_node}
 use Rattle.edits.specs.Counts.{live_slots, live_ports}
 use Rattle.renumber.specs.Records.{Rec, rec}
 use Rattle.renumber.specs.Moves.{moved}
-use Rattle.edits.specs.declared.answer.Answer.{Answer}
-use Rattle.edits.specs.declared.answer.Answer.TheVariants.{Done, LogFull}
+use Rattle.edits.specs.Answer.{Answer}
+use Rattle.edits.specs.declared.answer.Refusal.TheVariants.{LogFull}
+use Rattle.edits.specs.Answer.{done}
+use Rattle.std.specs.Prelude.{Err}
 
 -- both: 7 where fewer records remain than there are nodes, or ports
 unfoldable pub compact_answer : ℕ → ℕ → Answer
-compact_answer count left = pick (ltb left count) LogFull (Done count 0 0)
+compact_answer count left = pick (ltb left count) (Err LogFull) (done count 0 0)
 
 -- the slots once those below k have moved down
 unfoldable pub packed_slots : List ℕ → ℕ → List ℕ

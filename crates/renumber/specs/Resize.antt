@@ -11,8 +11,10 @@ use Rattle.edits.specs.Store.{Store, node_at, on_node}
 use Rattle.edits.specs.Steps.{most, removed_links, removed_owners, removed_heads}
 use Rattle.renumber.specs.Records.{Rec}
 use Rattle.renumber.specs.Moves.{removed_records, moved_run, moved_records}
-use Rattle.edits.specs.declared.answer.Answer.{Answer}
-use Rattle.edits.specs.declared.answer.Answer.TheVariants.{Done, NoNode, TooManyPorts, SlabTooLarge, NoSlab, LogFull}
+use Rattle.edits.specs.Answer.{Answer}
+use Rattle.edits.specs.declared.answer.Refusal.TheVariants.{NoNode, TooManyPorts, SlabTooLarge, NoSlab, LogFull}
+use Rattle.edits.specs.Answer.{done}
+use Rattle.std.specs.Prelude.{Err}
 use Rattle.renumber.specs.declared.moves.Run.{Run}
 use Rattle.renumber.specs.declared.resize.Change.{Change}
 
@@ -55,29 +57,29 @@ records_needed ch = pick (is_in_place ch) (inlets_removed ch + ch.meta.outlets) 
 
 -- 7 where fewer remain
 unfoldable pub log_answer : ℕ → Change → Answer
-log_answer left ch = pick (ltb left (records_needed ch)) LogFull (Done (records_needed ch) 0 0)
+log_answer left ch = pick (ltb left (records_needed ch)) (Err LogFull) (done (records_needed ch) 0 0)
 
 -- a live step: unchanged, then in place 7 alone, else 4, 6, 7
 unfoldable pub change_answer : ℕ → List ℕ → ℕ → ℕ → Change → Answer
 change_answer room heads mark left ch =
     pick (is_idle ch)
-    (Done 0 0 0)
+    (done 0 0 0)
     (pick (is_in_place ch)
     (log_answer left ch)
     (pick (ltb (length heads) (slab_size (ch.inlets + ch.outlets)))
-    SlabTooLarge
-    (pick (at_hand heads mark room (slab_size (ch.inlets + ch.outlets))) (log_answer left ch) NoSlab)))
+    (Err SlabTooLarge)
+    (pick (at_hand heads mark room (slab_size (ch.inlets + ch.outlets))) (log_answer left ch) (Err NoSlab))))
 
 -- call 3: 3, 1, then as above
 unfoldable pub resize_answer : List ℕ → ℕ → List ℕ → Counters → ℕ → ℕ → ℕ → ℕ → Answer
 resize_answer slots room heads c left node inlets outlets =
     pick (ltb most inlets)
-    TooManyPorts
+    (Err TooManyPorts)
     (pick (ltb most outlets)
-    TooManyPorts
+    (Err TooManyPorts)
     (on_node (node_at slots c.nodemark node)
     (λ m. change_answer room heads c.portmark left (record { node = node; meta = m; inlets = inlets; outlets = outlets }))
-    (NoNode node)))
+    (Err (NoNode node))))
 
 -- the first of the removed inlets, and of the removed outlets
 abbrev pub inlets_from : Change → ℕ

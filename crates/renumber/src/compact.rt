@@ -3,27 +3,28 @@ ghost use Rattle.std.specs.Prelude.{◌≡◌, ◌+◌, ◌*◌, ◌≤◌, ◌<
 ghost use Rattle.slabs.specs.NodeEntry.{width, set_entry};
 ghost use Rattle.slabs.specs.Slab.{owners_written};
 ghost use Rattle.slabs.specs.declared.node_entry.NodeEntry.TheVariants.{Node};
-ghost use Rattle.edits.specs.Store.{store_of};
+ghost use Rattle.edits.specs.Store.{store_in, SameMemory};
 ghost use Rattle.edits.specs.Fit.{SlotsFit, Fit};
 ghost use Rattle.renumber.specs.Compact.{compact_answer, followed, slab_dropped, slabs_dropped};
 ghost use Rattle.renumber.specs.Packing.{CanPackNodes, PackedNodes, CompactedNodes, CanPackPorts, PackedPorts, CompactedPorts};
 ghost use Rattle.renumber.specs.Room.{RecordRoom};
 
-use crate::log::LogPlace;
+use crate::log::{Kind, LogPlace};
 use crate::{log, moves};
-use edits::answer::Answer;
+use edits::answer::{Answer, Refusal};
+use edits::store::Tables;
 use slabs::counters::Counters;
 use slabs::node_entry::{NodeEntry, NodeMeta, WIDTH};
-use slabs::port_entry::PortEntry;
 
 // What both answer: as many records as there are nodes, or ports.
+#[tactic(auto, unfolding(crate::specs::Compact::compact_answer))]
 pub fn compact_answer(count: u32, left: usize) -> Answer
     ensures { result ≡ compact_answer count left }
 {
     if left < count as usize {
-        return Answer::LogFull;
+        return Err(Refusal::LogFull);
     }
-    Answer::Done(count, 0, 0)
+    Ok((count, 0, 0))
 }
 
 // Carries one live slot down to the slot `new`, its owner words with it.
@@ -42,6 +43,7 @@ fn move_node(slots: &mut [u32], owners: &mut [u32], new: u32, meta: NodeMeta)
 }
 
 // Live slots below the mark move down in order, each with a record; says how many there are.
+#[tactic(auto, using(crate::proofs::PackLaws::node_laws))]
 fn pack_nodes(
     slots: &mut [u32],
     owners: &mut [u32],
@@ -53,20 +55,18 @@ fn pack_nodes(
     ensures { PackedNodes slots.old owners.old log.old mark to slots.new owners.new log.new result }
 {
     let mut new: u32 = 0;
-    let mut k: u32 = 0;
-    while k < mark {
-        let entry = slabs::node_entry::read_slot(slots, k as usize);
-        if let NodeEntry::Node(meta) = entry {
+    for k in 0..mark {
+        if let NodeEntry::Node(meta) = slabs::node_entry::read_slot(slots, k as usize) {
             move_node(slots, owners, new, meta);
-            log::write_record(log, to.past(new), log::NODE_MOVED, k, new);
+            log::write_record(log, to.past(new), Kind::NodeMoved as u32, k, new);
             new += 1;
         }
-        k += 1;
     }
     new
 }
 
 // Call 7: what is left of the slots is cleared, and the free chain is emptied.
+#[tactic(auto, using(crate::proofs::PackLaws::node_laws), unfolding(crate::specs::Compact::compacted_slots))]
 pub fn compact_nodes(
     slots: &mut [u32],
     owners: &mut [u32],
@@ -89,25 +89,25 @@ pub fn compact_nodes(
 }
 
 // Where a slot's first port has moved, the slot follows and gives up its spare capacity.
+#[tactic(auto, unfolding(crate::specs::Compact::followed))]
 fn follow_first(slots: &mut [u32], node: u32, old: u32, new: u32)
     requires { (width * node + width ≤ length slots.old) × SlotsFit slots.old (node + 1) 32768 1048576 }
     ensures { slots.new ≡ followed slots.old node old new }
 {
-    let entry = slabs::node_entry::read_slot(slots, node as usize);
-    if let NodeEntry::Node(meta) = entry {
-        if meta.first == old {
-            let after = NodeMeta {
-                first: new,
-                inlets: meta.inlets,
-                outlets: meta.outlets,
-                capacity: meta.inlets + meta.outlets,
-            };
-            slabs::node_entry::write_slot(slots, node as usize, NodeEntry::Node(after));
-        }
+    if let NodeEntry::Node(meta) = slabs::node_entry::read_slot(slots, node as usize)
+        && meta.first == old
+    {
+        let after = NodeMeta {
+            first: new,
+            capacity: meta.inlets + meta.outlets,
+            ..meta
+        };
+        slabs::node_entry::write_slot(slots, node as usize, NodeEntry::Node(after));
     }
 }
 
 // Live ports below the mark move down in order, each with a record; says how many there are.
+#[tactic(auto, using(crate::proofs::PackLaws::port_laws))]
 fn pack_ports(
     slots: &mut [u32],
     links: &mut [u32],
@@ -120,71 +120,65 @@ fn pack_ports(
     ensures { PackedPorts slots.old links.old owners.old log.old mark to slots.new links.new owners.new log.new result }
 {
     let mut new: u32 = 0;
-    let mut p: u32 = 0;
-    while p < mark {
+    for p in 0..mark {
         let word = owners[p as usize];
-        let entry = slabs::port_entry::port_entry(word);
-        if let PortEntry::Port { node, direction: _ } = entry {
+        if let Some(port) = slabs::port_entry::port_entry(word) {
             moves::move_port(links, p, new);
             owners[new as usize] = word;
-            follow_first(slots, node, p, new);
-            log::write_record(log, to.past(new), log::PORT_MOVED, p, new);
+            follow_first(slots, port.node, p, new);
+            log::write_record(log, to.past(new), Kind::PortMoved as u32, p, new);
             new += 1;
         }
-        p += 1;
     }
     new
 }
 
 // A live step without ports has no slab any more.
+#[tactic(auto, unfolding(crate::specs::Compact::slab_dropped))]
 fn drop_slab(slots: &mut [u32], slot: u32)
     requires { (width * slot + width ≤ length slots.old) × SlotsFit slots.old (slot + 1) 32768 1048576 }
     ensures { slots.new ≡ slab_dropped slots.old slot }
 {
-    let entry = slabs::node_entry::read_slot(slots, slot as usize);
-    if let NodeEntry::Node(meta) = entry {
-        if meta.inlets + meta.outlets == 0 {
-            let after = NodeMeta {
-                first: 0,
-                inlets: 0,
-                outlets: 0,
-                capacity: 0,
-            };
-            slabs::node_entry::write_slot(slots, slot as usize, NodeEntry::Node(after));
-        }
+    if let NodeEntry::Node(meta) = slabs::node_entry::read_slot(slots, slot as usize)
+        && meta.inlets + meta.outlets == 0
+    {
+        let after = NodeMeta {
+            first: 0,
+            capacity: 0,
+            ..meta
+        };
+        slabs::node_entry::write_slot(slots, slot as usize, NodeEntry::Node(after));
     }
 }
 
 // So for every slot below the mark.
+#[tactic(auto, unfolding(crate::specs::Compact::slabs_dropped))]
 fn drop_slabs(slots: &mut [u32], mark: u32)
     requires { (width * mark ≤ length slots.old) × SlotsFit slots.old mark 32768 1048576 }
     ensures { slots.new ≡ slabs_dropped slots.old mark }
 {
-    let mut k: u32 = 0;
-    while k < mark {
-        drop_slab(slots, k);
-        k += 1;
+    for slot in 0..mark {
+        drop_slab(slots, slot);
     }
 }
 
 // Call 8: live ports move down in order, spare capacity goes, and all chains of slabs are emptied.
+#[tactic(auto, using(crate::proofs::PackLaws::port_laws))]
 pub fn compact_ports(
-    slots: &mut [u32],
-    links: &mut [u32],
-    owners: &mut [u32],
-    heads: &mut [u32],
+    tables: &mut Tables<'_>,
     log: &mut [u32],
     counters: Counters,
     to: LogPlace,
 ) -> Counters
-    requires { Fit (store_of slots.old links.old owners.old heads.old counters) × RecordRoom log.old to counters.ports }
-    ensures { CompactedPorts (store_of slots.old links.old owners.old heads.old counters) log.old to slots.new links.new owners.new heads.new log.new result }
+    requires { Fit (store_in tables.old counters) × RecordRoom log.old to counters.ports }
+    ensures memory { SameMemory tables.old tables.new }
+    ensures words { CompactedPorts (store_in tables.old counters) log.old to tables.new.slots.now tables.new.links.now tables.new.owners.now tables.new.heads.now log.new result }
 {
     let mark = counters.portmark;
-    let ports = pack_ports(slots, links, owners, log, mark, to);
-    drop_slabs(slots, counters.nodemark);
-    slabs::slab::fill(links, ports as usize, (mark - ports) as usize, 0);
-    slabs::slab::fill(owners, ports as usize, (mark - ports) as usize, 0);
-    slabs::slab::fill(heads, 0, heads.len(), 0);
+    let ports = pack_ports(tables.slots, tables.links, tables.owners, log, mark, to);
+    drop_slabs(tables.slots, counters.nodemark);
+    slabs::slab::fill(tables.links, ports as usize, (mark - ports) as usize, 0);
+    slabs::slab::fill(tables.owners, ports as usize, (mark - ports) as usize, 0);
+    tables.heads.fill(0);
     counters.ports_packed()
 }

@@ -5,14 +5,14 @@ ghost use Rattle.renumber.specs.Records.{record_width, rec, set_record, later};
 // The words of a record.
 pub const RECORD: usize = 4;
 
-// The kinds of a record.
-pub const REMOVED: u32 = 1;
-
-pub const UNWIRED: u32 = 2;
-
-pub const PORT_MOVED: u32 = 3;
-
-pub const NODE_MOVED: u32 = 4;
+// The kinds of a record: a port that goes, without a wire or with one, and a port or a slot that stays. `as u32` gives the word.
+#[derive(Clone, Copy, Debug, PartialEq, Eq)]
+pub enum Kind {
+    Removed = 1,
+    Unwired = 2,
+    PortMoved = 3,
+    NodeMoved = 4,
+}
 
 // Where the next record goes, counted in records, and at which place of its run the call stands.
 #[derive(Clone, Copy)]
@@ -27,7 +27,7 @@ impl LogPlace {
         requires { self.at ≤ 1048576 }
         ensures { result ≡ later self records }
     {
-        self.at = self.at + records as usize;
+        self.at += records as usize;
         self
     }
 }

@@ -6,38 +6,37 @@ ghost use Rattle.renumber.specs.Moves.{removed_record, moved, turn, moved_run, m
 ghost use Rattle.renumber.specs.Room.{RecordRoom, CanCut, CutPorts, CanMove};
 
 use crate::log;
-use crate::log::LogPlace;
+use crate::log::{Kind, LogPlace};
 
-// Kind 1 for a port without a wire, kind 2 with its partner.
+// A port without a wire is removed, and one with a wire is unwired from its partner.
+#[tactic(auto, unfolding(crate::specs::Moves::removed_record, slabs::specs::Links::link_at))]
 fn record_removed(links: &[u32], log: &mut [u32], to: LogPlace, port: u32)
     requires { (port < length links.now) × (record_width * to.at + record_width ≤ length log.old) }
     ensures { log.new ≡ set_record log.old to.at to.place (removed_record links.now port) }
 {
-    let word = links[port as usize];
-    if word == 0 {
-        log::write_record(log, to, log::REMOVED, port, 0);
-    } else {
-        log::write_record(log, to, log::UNWIRED, port, word - 1);
+    match slabs::links::link_at(links, port as usize) {
+        None => log::write_record(log, to, Kind::Removed as u32, port, 0),
+        Some(partner) => log::write_record(log, to, Kind::Unwired as u32, port, partner),
     }
 }
 
 // Cuts n removed ports from `first` on, by rising number, and records each with the partner that it has at that moment.
 // Says how many wires were cut.
+#[tactic(auto, using(crate::proofs::MoveLaws::cut_laws, crate::proofs::RecordLaws::log_laws), unfolding(slabs::specs::Links::cut_run, slabs::specs::Links::wires_in, crate::specs::Moves::removed_records))]
 pub fn remove_ports(links: &mut [u32], log: &mut [u32], to: LogPlace, first: u32, n: u32) -> u32
     requires { CanCut links.old log.old to first n }
     ensures { CutPorts links.old log.old to first n links.new log.new result }
 {
     let mut wires: u32 = 0;
-    let mut i: u32 = 0;
-    while i < n {
+    for i in 0..n {
         record_removed(links, log, to.past(i), first + i);
         wires += slabs::links::cut(links, (first + i) as usize);
-        i += 1;
     }
     wires
 }
 
 // Carries a port's wire from its old number to its new one: the partner's word follows.
+#[tactic(auto, unfolding(crate::specs::Moves::moved, crate::specs::Moves::carried))]
 pub fn move_port(links: &mut [u32], old: u32, new: u32)
     requires { (old < length links.old) × (new < length links.old) × (length links.old ≤ 1048576) × Inside links.old }
     ensures { links.new ≡ moved links.old old new }
@@ -63,7 +62,9 @@ pub struct Run {
 }
 
 impl Run {
-    // Which port of the run goes at step i: from the low end up, or from the high end down.
+    // Which port of the run goes at step i: from the low end up, or from the high end down. A range and its `rev()` are two
+    // types, so that a loop over either, as the run says, would stand twice; one loop that turns its step is plainer.
+    #[tactic(auto, unfolding(crate::specs::Moves::turn))]
     fn turn(self, i: u32) -> u32
         requires { i < self.n }
         ensures { result ≡ turn self i }
@@ -73,27 +74,31 @@ impl Run {
 }
 
 // Carries a run of ports.
+#[tactic(auto, using(crate::proofs::MoveLaws::run_laws), unfolding(crate::specs::Moves::moved_run))]
 pub fn move_ports(links: &mut [u32], run: Run)
     requires { CanMove links.old run }
     ensures { links.new ≡ moved_run links.old run run.n }
 {
-    let mut i: u32 = 0;
-    while i < run.n {
+    for i in 0..run.n {
         let k = run.turn(i);
         move_port(links, run.from + k, run.to + k);
-        i += 1;
     }
 }
 
 // Records those moves, in the same order.
+#[tactic(auto, using(crate::proofs::MoveLaws::run_laws, crate::proofs::RecordLaws::log_laws), unfolding(crate::specs::Moves::moved_records))]
 pub fn record_moves(log: &mut [u32], to: LogPlace, run: Run)
     requires { RecordRoom log.old to run.n × (run.from + run.n ≤ 1048576) × (run.to + run.n ≤ 1048576) }
     ensures { log.new ≡ logged log.old to.at to.place (moved_records run) }
 {
-    let mut i: u32 = 0;
-    while i < run.n {
+    for i in 0..run.n {
         let k = run.turn(i);
-        log::write_record(log, to.past(i), log::PORT_MOVED, run.from + k, run.to + k);
-        i += 1;
+        log::write_record(
+            log,
+            to.past(i),
+            Kind::PortMoved as u32,
+            run.from + k,
+            run.to + k,
+        );
     }
 }

@@ -1,18 +1,19 @@
 // Resize, call 3: in place, or into a new slab.
-ghost use Rattle.std.specs.Prelude.{◌≡◌, ◌+◌, ◌*◌, ◌≤◌, ◌<◌, min, length};
+ghost use Rattle.std.specs.Prelude.{◌≡◌, ◌+◌, ◌*◌, ◌≤◌, ◌<◌, length};
 ghost use Rattle.slabs.specs.NodeEntry.{width};
-ghost use Rattle.edits.specs.Store.{store_of};
+ghost use Rattle.edits.specs.Store.{store_in, SameMemory};
 ghost use Rattle.edits.specs.Fit.{Fit, SlotsFit};
-ghost use Rattle.renumber.specs.Resize.{grown_once, slab_size, is_idle, is_in_place, inlets_kept, outlets_kept, inlets_removed, outlets_removed, records_needed, log_answer, change_answer, resize_answer, changed_slots, changed_owners};
+ghost use Rattle.renumber.specs.Resize.{slab_size, is_idle, is_in_place, inlets_kept, outlets_kept, inlets_removed, outlets_removed, records_needed, log_answer, change_answer, resize_answer, changed_slots, changed_owners};
 ghost use Rattle.renumber.specs.Room.{SmallChange, CanChange, CutRemoved, CanCutRemoved, CanShift, Shifted, CanMoveKept, MovedKept, CanFreeOld, FreedOld, CanReallocate, Reallocated, Resized};
 
 use crate::log::LogPlace;
 use crate::moves;
 use crate::moves::Run;
-use edits::answer::Answer;
-use edits::questions::node_at;
+use edits::answer::{Answer, Refusal};
+use edits::questions::live_node;
 use edits::steps::MOST;
-use slabs::counters::{Counters, less};
+use edits::store::Tables;
+use slabs::counters::Counters;
 use slabs::node_entry::{NodeEntry, NodeMeta};
 
 // A live step and the counts that it is to have.
@@ -24,128 +25,110 @@ pub struct Change {
     pub outlets: u32,
 }
 
-// Twice the size, unless it is n or more.
-fn grow(size: u32, n: u32) -> u32
-    requires { (size < 65536) × (n ≤ 65536) }
-    ensures { result ≡ grown_once n size }
-{
-    if size < n { size * 2 } else { size }
-}
-
 // The least power of two that is n or more, and 1 for 0.
+#[tactic(auto, using(crate::proofs::ResizeLaws::next_power))]
 pub fn slab_size(n: u32) -> u32
     requires { n ≤ 32768 }
     ensures { result ≡ slab_size n }
 {
-    let mut size: u32 = 1;
-    let mut i: u32 = 0;
-    while i < 15 {
-        size = grow(size, n);
-        i += 1;
-    }
-    size
-}
-
-// The smaller of two numbers.
-fn least(a: u32, b: u32) -> u32
-    ensures { result ≡ min a b }
-{
-    if a < b { a } else { b }
+    n.next_power_of_two()
 }
 
 impl Change {
     // Whether the step has these counts already.
+    #[tactic(auto, unfolding(crate::specs::Resize::is_idle))]
     pub fn is_idle(self) -> bool
         ensures { result ≡ is_idle self }
     {
-        if self.meta.inlets == self.inlets {
-            return self.meta.outlets == self.outlets;
-        }
-        false
+        self.meta.inlets == self.inlets && self.meta.outlets == self.outlets
     }
 
     // Whether the step gets these counts without a new slab.
+    #[tactic(auto, unfolding(crate::specs::Resize::is_in_place))]
     fn is_in_place(self) -> bool
         requires { SmallChange self }
         ensures { result ≡ is_in_place self }
     {
         let total = self.inlets + self.outlets;
-        if total == 0 {
-            return false;
-        }
-        total < self.meta.capacity
+        total != 0 && total < self.meta.capacity
     }
 
+    // The inlets and the outlets differ in a field alone: one function for both would be `min`, or `saturating_sub`, again.
     fn inlets_kept(self) -> u32
         ensures { result ≡ inlets_kept self }
     {
-        least(self.meta.inlets, self.inlets)
+        self.meta.inlets.min(self.inlets)
     }
 
     fn outlets_kept(self) -> u32
         ensures { result ≡ outlets_kept self }
     {
-        least(self.meta.outlets, self.outlets)
+        self.meta.outlets.min(self.outlets)
     }
 
     fn inlets_removed(self) -> u32
         ensures { result ≡ inlets_removed self }
     {
-        less(self.meta.inlets, self.inlets)
+        self.meta.inlets.saturating_sub(self.inlets)
     }
 
     fn outlets_removed(self) -> u32
         ensures { result ≡ outlets_removed self }
     {
-        less(self.meta.outlets, self.outlets)
+        self.meta.outlets.saturating_sub(self.outlets)
     }
 
     // How many records the change writes.
+    #[tactic(auto, unfolding(crate::specs::Resize::records_needed))]
     fn records(self) -> u32
         requires { SmallChange self }
         ensures { result ≡ records_needed self }
     {
         if self.is_in_place() {
-            return self.inlets_removed() + self.meta.outlets;
+            self.inlets_removed() + self.meta.outlets
+        } else {
+            self.meta.inlets + self.meta.outlets
         }
-        self.meta.inlets + self.meta.outlets
     }
 }
 
 // 7 where fewer records remain than the change writes.
+#[tactic(auto, unfolding(crate::specs::Resize::log_answer))]
 fn log_answer(left: usize, change: Change) -> Answer
     requires { SmallChange change }
     ensures { result ≡ log_answer left change }
 {
     let records = change.records();
     if left < records as usize {
-        return Answer::LogFull;
+        return Err(Refusal::LogFull);
     }
-    Answer::Done(records, 0, 0)
+    Ok((records, 0, 0))
 }
 
 // What call 3 answers for a live step, where `left` records remain in the log. `room` is the length of the port tables.
+#[tactic(auto, using(crate::proofs::ResizeLaws::slab_size_some), unfolding(crate::specs::Resize::change_answer))]
 fn change_answer(room: usize, heads: &[u32], mark: u32, left: usize, change: Change) -> Answer
     requires { SmallChange change }
     ensures { result ≡ change_answer room heads.now mark left change }
 {
     if change.is_idle() {
-        return Answer::Done(0, 0, 0);
+        return Ok((0, 0, 0));
     }
     if change.is_in_place() {
         return log_answer(left, change);
     }
     let size = slab_size(change.inlets + change.outlets);
     if heads.len() < size as usize {
-        return Answer::SlabTooLarge;
+        return Err(Refusal::SlabTooLarge);
     }
     if !slabs::slab::at_hand(heads, mark, room, size) {
-        return Answer::NoSlab;
+        return Err(Refusal::NoSlab);
     }
     log_answer(left, change)
 }
 
 // What call 3 answers.
+#[tactic(auto, using(crate::proofs::AnswerLaws::node_at_live), unfolding(crate::specs::Resize::resize_answer))]
 pub fn resize_answer(
     slots: &[u32],
     room: usize,
@@ -159,16 +142,10 @@ pub fn resize_answer(
     requires { (width * counters.nodemark ≤ length slots.now) × SlotsFit slots.now counters.nodemark 32768 1048576 }
     ensures { result ≡ resize_answer slots.now room heads.now counters left node inlets outlets }
 {
-    if MOST < inlets {
-        return Answer::TooManyPorts;
+    if MOST < inlets || MOST < outlets {
+        return Err(Refusal::TooManyPorts);
     }
-    if MOST < outlets {
-        return Answer::TooManyPorts;
-    }
-    let entry = node_at(slots, counters.nodemark, node);
-    let NodeEntry::Node(meta) = entry else {
-        return Answer::NoNode(node);
-    };
+    let meta = live_node(slots, counters.nodemark, node).ok_or(Refusal::NoNode(node))?;
     let change = Change {
         node,
         meta,
@@ -179,6 +156,7 @@ pub fn resize_answer(
 }
 
 // Cuts the removed inlets, then the removed outlets, with their records. Says how many wires went.
+#[tactic(auto, using(crate::proofs::MoveLaws::cut_laws, crate::proofs::RecordLaws::log_laws))]
 fn cut_removed(links: &mut [u32], log: &mut [u32], to: LogPlace, change: Change) -> u32
     requires { CanCutRemoved links.old log.old to change }
     ensures { CutRemoved links.old log.old to change links.new log.new result }
@@ -205,6 +183,7 @@ fn own_ports(owners: &mut [u32], change: Change, first: u32)
 }
 
 // Writes the slot of the changed step.
+#[tactic(auto, unfolding(crate::specs::Resize::changed_slots))]
 fn write_change(slots: &mut [u32], change: Change, first: u32, capacity: u32)
     requires { (width * change.node + width ≤ length slots.old) × (change.inlets ≤ 16384) }
     ensures { slots.new ≡ changed_slots slots.old change first capacity }
@@ -220,6 +199,7 @@ fn write_change(slots: &mut [u32], change: Change, first: u32, capacity: u32)
 
 // In place: the kept outlets move, from the low end up where inlets fall, else from the high end down. The ports of the old
 // counts that are left over are nobody's.
+#[tactic(auto, using(slabs::proofs::FillLaws::written_length), unfolding(crate::specs::Resize::in_place_owners))]
 fn shift(links: &mut [u32], owners: &mut [u32], log: &mut [u32], to: LogPlace, change: Change)
     requires { CanShift links.old owners.old log.old to change }
     ensures { Shifted links.old owners.old log.old to change links.new owners.new log.new }
@@ -235,11 +215,12 @@ fn shift(links: &mut [u32], owners: &mut [u32], log: &mut [u32], to: LogPlace, c
     moves::record_moves(log, to, run);
     own_ports(owners, change, first);
     let total = change.inlets + change.outlets;
-    let rest = less(change.meta.inlets + change.meta.outlets, total);
+    let rest = (change.meta.inlets + change.meta.outlets).saturating_sub(total);
     slabs::slab::fill(owners, (first + total) as usize, rest as usize, 0);
 }
 
 // Carries the kept inlets, then the kept outlets, to a new slab that starts at `first`, with their records.
+#[tactic(auto, using(crate::proofs::MoveLaws::run_laws, crate::proofs::RecordLaws::log_laws))]
 fn move_kept(links: &mut [u32], log: &mut [u32], to: LogPlace, change: Change, first: u32)
     requires { CanMoveKept links.old log.old to change first }
     ensures { MovedKept links.old log.old to change first links.new log.new }
@@ -268,51 +249,45 @@ fn free_old(links: &mut [u32], owners: &mut [u32], heads: &mut [u32], meta: Node
     requires { CanFreeOld links.old owners.old heads.old meta }
     ensures { FreedOld links.old owners.old heads.old meta links.new owners.new heads.new }
 {
-    if meta.capacity == 0 {
-        return;
+    if meta.capacity != 0 {
+        slabs::slab::free_slab(links, owners, heads, meta.first, meta.capacity);
     }
-    slabs::slab::free_slab(links, owners, heads, meta.first, meta.capacity);
 }
 
 // Into a new slab, which is taken before the old one is freed.
 fn reallocate(
-    slots: &mut [u32],
-    links: &mut [u32],
-    owners: &mut [u32],
-    heads: &mut [u32],
+    tables: &mut Tables<'_>,
     log: &mut [u32],
     counters: Counters,
     to: LogPlace,
     change: Change,
 ) -> Counters
-    requires { CanReallocate slots.old links.old owners.old heads.old log.old counters to change }
-    ensures { Reallocated slots.old links.old owners.old heads.old log.old counters to change slots.new links.new owners.new heads.new log.new result }
+    requires { CanReallocate tables.old.slots.now tables.old.links.now tables.old.owners.now tables.old.heads.now log.old counters to change }
+    ensures memory { SameMemory tables.old tables.new }
+    ensures words { Reallocated tables.old.slots.now tables.old.links.now tables.old.owners.now tables.old.heads.now log.old counters to change tables.new.slots.now tables.new.links.now tables.new.owners.now tables.new.heads.now log.new result }
 {
     let size = slab_size(change.inlets + change.outlets);
-    let taken = slabs::slab::take_slab(links, heads, counters, size);
-    let first = taken.first;
-    own_ports(owners, change, first);
-    move_kept(links, log, to, change, first);
-    write_change(slots, change, first, size);
-    free_old(links, owners, heads, change.meta);
-    taken.counters
+    let (first, after) = slabs::slab::take_slab(tables.links, tables.heads, counters, size);
+    own_ports(tables.owners, change, first);
+    move_kept(tables.links, log, to, change, first);
+    write_change(tables.slots, change, first, size);
+    free_old(tables.links, tables.owners, tables.heads, change.meta);
+    after
 }
 
 // Resizes a live step whose counts change. What it needs is known to be there.
 pub fn resize(
-    slots: &mut [u32],
-    links: &mut [u32],
-    owners: &mut [u32],
-    heads: &mut [u32],
+    tables: &mut Tables<'_>,
     log: &mut [u32],
     counters: Counters,
     to: LogPlace,
     change: Change,
 ) -> Counters
-    requires { Fit (store_of slots.old links.old owners.old heads.old counters) × CanChange (store_of slots.old links.old owners.old heads.old counters) log.old to change }
-    ensures { Resized (store_of slots.old links.old owners.old heads.old counters) log.old to change slots.new links.new owners.new heads.new log.new result }
+    requires { Fit (store_in tables.old counters) × CanChange (store_in tables.old counters) log.old to change }
+    ensures memory { SameMemory tables.old tables.new }
+    ensures words { Resized (store_in tables.old counters) log.old to change tables.new.slots.now tables.new.links.now tables.new.owners.now tables.new.heads.now log.new result }
 {
-    let wires = cut_removed(links, log, to, change);
+    let wires = cut_removed(tables.links, log, to, change);
     let next = to.past(change.inlets_removed() + change.outlets_removed());
     let before = change.meta.inlets + change.meta.outlets;
     let after = change.inlets + change.outlets;
@@ -320,9 +295,14 @@ pub fn resize(
         .links_uncounted(wires)
         .ports_recounted(before, after);
     if change.is_in_place() {
-        shift(links, owners, log, next, change);
-        write_change(slots, change, change.meta.first, change.meta.capacity);
+        shift(tables.links, tables.owners, log, next, change);
+        write_change(
+            tables.slots,
+            change,
+            change.meta.first,
+            change.meta.capacity,
+        );
         return cut;
     }
-    reallocate(slots, links, owners, heads, log, cut, next, change)
+    reallocate(tables, log, cut, next, change)
 }

@@ -6,6 +6,7 @@ mod printing;
 mod runs;
 mod sessions;
 
+use edits::store::Tables;
 use input::read_full;
 use std::io::{self, Read, Write};
 
@@ -14,24 +15,12 @@ fn replay_input<R: Read, W: Write>(
     input: &mut R,
     output: &mut W,
     text: &mut [u8],
-    slots: &mut [u32],
-    links: &mut [u32],
-    owners: &mut [u32],
-    heads: &mut [u32],
+    tables: &mut Tables,
     scratch: &mut [u32],
     log: &mut [u32],
 ) -> io::Result<()> {
     let n = read_full(input, text)?;
-    sessions::replay(
-        output,
-        &text[..n],
-        slots,
-        links,
-        owners,
-        heads,
-        scratch,
-        log,
-    )
+    sessions::replay(output, &text[..n], tables, scratch, log)
 }
 
 // Lends the tables as slices. `main` leaves that to this function, which has their lengths from their types: in `main`
@@ -47,9 +36,13 @@ fn lend<R: Read, W: Write>(
     scratch: &mut [u32; 69632],
     log: &mut [u32; 262144],
 ) -> io::Result<()> {
-    replay_input(
-        input, output, text, slots, links, owners, heads, scratch, log,
-    )
+    let mut tables = Tables {
+        slots,
+        links,
+        owners,
+        heads,
+    };
+    replay_input(input, output, text, &mut tables, scratch, log)
 }
 
 // The largest room: 4,096 slots, 65,536 ports, 32,768 heads, 65,536 records, and an input of 1,048,576 bytes.

@@ -1,10 +1,13 @@
 // Sessions: an empty store of some room, and runs of calls over it.
 ghost use Rattle.std.specs.Prelude.{◌≡◌, ◌≢◌, ◌*◌, ◌/◌, ◌≤◌, length, take, min, OnOk};
 ghost use Rattle.std.specs.Io.KnownBytes.{Appends};
+ghost use Rattle.run.specs.Run.{code_of, records_of};
 ghost use Rattle.replay.specs.Transcript.{transcript, refusal_line};
 
-use crate::lines::Line;
-use crate::{lines, printing, runs};
+use crate::lines::Change;
+use crate::runs::Step;
+use crate::{printing, runs};
+use edits::store::Tables;
 use run::RunAnswer;
 use slabs::counters::Counters;
 use std::io::{self, Write};
@@ -34,40 +37,35 @@ fn room(n: usize, table: &[u32]) -> usize
     ensures prefix { result ≡ length (take result table.now) }
     ensures value { result ≡ min n (length table.now) }
 {
-    if n < table.len() { n } else { table.len() }
+    n.min(table.len())
 }
 
 // The first n words of a table become 0, or all where it has fewer.
 fn zero(table: &mut [u32], n: usize) {
     let end = room(n, table);
-    let mut i: usize = 0;
-    while i < end {
-        table[i] = 0;
-        i += 1;
-    }
+    table[..end].fill(0);
 }
 
 // A word among the first n of a table is overwritten.
 fn set_word(table: &mut [u32], n: usize, at: u32, word: u32) {
-    let i = at as usize;
-    if i < room(n, table) {
-        table[i] = word;
+    let end = room(n, table);
+    if let Some(old) = table[..end].get_mut(at as usize) {
+        *old = word;
     }
 }
 
 // A counter is overwritten.
-fn set_counter(counters: Counters, which: u32, word: u32) -> Counters {
-    let mut c = counters;
+fn set_counter(mut counters: Counters, which: u32, word: u32) -> Counters {
     match which {
-        0 => c.nodemark = word,
-        1 => c.portmark = word,
-        2 => c.freeslot = word,
-        3 => c.nodes = word,
-        4 => c.ports = word,
-        5 => c.links = word,
+        0 => counters.nodemark = word,
+        1 => counters.portmark = word,
+        2 => counters.freeslot = word,
+        3 => counters.nodes = word,
+        4 => counters.ports = word,
+        5 => counters.links = word,
         _ => {}
     }
-    c
+    counters
 }
 
 impl Session {
@@ -96,65 +94,55 @@ impl Session {
     }
 }
 
-// An S line: a session of its room, whose tables are made empty.
-fn begin(
-    line: Line,
-    slots: &mut [u32],
-    links: &mut [u32],
-    owners: &mut [u32],
-    heads: &mut [u32],
-) -> Session {
-    let session = Session::empty(line.a, line.b, line.c, line.d);
-    zero(slots, session.slot_words);
-    zero(links, session.ports);
-    zero(owners, session.ports);
-    zero(heads, session.heads);
-    session
+// The tables of a session are made empty, as far as its room goes.
+fn begin(session: Session, tables: &mut Tables) {
+    zero(tables.slots, session.slot_words);
+    zero(tables.links, session.ports);
+    zero(tables.owners, session.ports);
+    zero(tables.heads, session.heads);
 }
 
-// A W line: a word of the store is overwritten, if there is such a word. So stores can be tried that no run leaves.
-fn overwrite(
-    session: Session,
-    line: Line,
-    slots: &mut [u32],
-    links: &mut [u32],
-    owners: &mut [u32],
-    heads: &mut [u32],
-) -> Session {
-    let table = line.a;
+// A word of the store is overwritten, if there is such a word. So stores can be tried that no run leaves.
+fn overwrite(session: Session, tables: &mut Tables, table: u32, at: u32, word: u32) -> Session {
     match table {
-        0 => set_word(slots, session.slot_words, line.b, line.c),
-        1 => set_word(links, session.ports, line.b, line.c),
-        2 => set_word(owners, session.ports, line.b, line.c),
-        3 => set_word(heads, session.heads, line.b, line.c),
-        4 => return session.with_counters(set_counter(session.counters, line.b, line.c)),
+        0 => set_word(tables.slots, session.slot_words, at, word),
+        1 => set_word(tables.links, session.ports, at, word),
+        2 => set_word(tables.owners, session.ports, at, word),
+        3 => set_word(tables.heads, session.heads, at, word),
+        4 => return session.with_counters(set_counter(session.counters, at, word)),
         _ => {}
     }
     session
 }
 
-// A line that is no call: what it says is done, and the line is printed, unless it is to be skipped.
+// A line that changes the session is printed, and what it says is done.
 fn change<W: Write>(
     output: &mut W,
     session: Session,
-    line: Line,
-    slots: &mut [u32],
-    links: &mut [u32],
-    owners: &mut [u32],
-    heads: &mut [u32],
+    line: Change,
+    tables: &mut Tables,
 ) -> io::Result<Session> {
-    let letter = line.letter;
-    let numbers = [line.a, line.b, line.c, line.d];
-    let n = room(lines::numbers_of(letter), &numbers);
-    if 0 < n {
-        printing::print_line(output, letter, &numbers[..n])?;
+    match line {
+        Change::Begin {
+            slots,
+            ports,
+            heads,
+            records,
+        } => {
+            printing::print_line(output, b'S', &[slots, ports, heads, records])?;
+            let begun = Session::empty(slots, ports, heads, records);
+            begin(begun, tables);
+            Ok(begun)
+        }
+        Change::Records(records) => {
+            printing::print_line(output, b'N', &[records])?;
+            Ok(session.with_records(records))
+        }
+        Change::Word { table, at, word } => {
+            printing::print_line(output, b'W', &[table, at, word])?;
+            Ok(overwrite(session, tables, table, at, word))
+        }
     }
-    Ok(match letter {
-        b'S' => begin(line, slots, links, owners, heads),
-        b'N' => session.with_records(line.a),
-        b'W' => overwrite(session, line, slots, links, owners, heads),
-        _ => session,
-    })
 }
 
 // Prints what a run answered: its calls, or the code by which it was refused.
@@ -165,51 +153,67 @@ fn print_answer<W: Write>(
     answers: &[u32; 1024],
     log: &[u32],
 ) -> io::Result<()>
-    ensures refused { OnOk result (done.code ≢ 0 → Appends (W.contents output.old) (W.contents output.new) (refusal_line done.code)) }
-    ensures answered { OnOk result (done.code ≡ 0 → length calls.now ≤ 1024 → Appends (W.contents output.old) (W.contents output.new) (transcript calls.now answers.now (take (4 * done.records) log.now) (length calls.now / 4))) }
+    ensures refused { OnOk result (code_of done.records ≢ 0 → Appends (W.contents output.old) (W.contents output.new) (refusal_line (code_of done.records))) }
+    ensures answered { OnOk result (code_of done.records ≡ 0 → length calls.now ≤ 1024 → Appends (W.contents output.old) (W.contents output.new) (transcript calls.now answers.now (take (4 * records_of done.records) log.now) (length calls.now / 4))) }
 {
-    if done.code != 0 {
-        return printing::print_line(output, b'Q', &[done.code]);
+    match done.records {
+        Ok(records) => {
+            let written = room(words_of(records), log);
+            runs::print_run(output, calls, answers, &log[..written])
+        }
+        Err(refusal) => printing::print_line(output, b'Q', &[u32::from(refusal)]),
     }
-    let written = room(words_of(done.records), log);
-    runs::print_run(output, calls, answers, &log[..written])
 }
 
-// Makes a run of the calls in the first words, prints it, and gives the session after it.
-fn make_run<W: Write>(
-    output: &mut W,
-    session: Session,
-    calls: &[u32; 1024],
-    words: usize,
+// A run over parts of the tables.
+fn run_over(
     slots: &mut [u32],
     links: &mut [u32],
     owners: &mut [u32],
     heads: &mut [u32],
     scratch: &mut [u32],
+    calls: &[u32],
+    answers: &mut [u32; 1024],
+    log: &mut [u32],
+    counters: Counters,
+) -> RunAnswer {
+    let mut parts = Tables {
+        slots,
+        links,
+        owners,
+        heads,
+    };
+    run::run(&mut parts, scratch, calls, answers, log, counters)
+}
+
+// Makes a run of some calls, prints it, and gives the session after it.
+fn make_run<W: Write>(
+    output: &mut W,
+    session: Session,
+    calls: &[u32],
+    tables: &mut Tables<'_>,
+    scratch: &mut [u32],
     log: &mut [u32],
 ) -> io::Result<Session> {
-    let all: &[u32] = calls;
-    let call_end = room(words, all);
-    let asked = &all[..call_end];
-    let slot_end = room(session.slot_words, slots);
-    let link_end = room(session.ports, links);
-    let owner_end = room(session.ports, owners);
-    let head_end = room(session.heads, heads);
+    let slot_end = room(session.slot_words, tables.slots);
+    let link_end = room(session.ports, tables.links);
+    let owner_end = room(session.ports, tables.owners);
+    let head_end = room(session.heads, tables.heads);
     let scratch_end = room(session.scratch_words, scratch);
     let log_end = room(session.log_words, log);
     let mut answers = [0u32; 1024];
-    let done = run::run(
-        &mut slots[..slot_end],
-        &mut links[..link_end],
-        &mut owners[..owner_end],
-        &mut heads[..head_end],
+    let done = run_over(
+        &mut tables.slots[..slot_end],
+        &mut tables.links[..link_end],
+        &mut tables.owners[..owner_end],
+        &mut tables.heads[..head_end],
         &mut scratch[..scratch_end],
-        asked,
+        calls,
         &mut answers,
         &mut log[..log_end],
         session.counters,
     );
-    print_answer(output, done, asked, &answers, log)?;
+    print_answer(output, done, calls, &answers, log)?;
     Ok(session.with_counters(done.counters))
 }
 
@@ -218,26 +222,22 @@ fn make_run<W: Write>(
 pub fn replay<W: Write>(
     output: &mut W,
     text: &[u8],
-    slots: &mut [u32],
-    links: &mut [u32],
-    owners: &mut [u32],
-    heads: &mut [u32],
+    tables: &mut Tables,
     scratch: &mut [u32],
     log: &mut [u32],
 ) -> io::Result<()> {
     let mut session = Session::empty(64, 512, 128, 512);
-    let mut calls = [0u32; 1024];
     let mut at: usize = 0;
     while at < text.len() {
-        let step = runs::read_step(text, at, &mut calls);
-        if 0 < step.words {
-            session = make_run(
-                output, session, &calls, step.words, slots, links, owners, heads, scratch, log,
-            )?;
-        } else {
-            session = change(output, session, step.line, slots, links, owners, heads)?;
-        }
-        at = step.next;
+        let (step, next) = runs::read_step(text, at);
+        session = match step {
+            Step::Run(calls) => {
+                make_run(output, session, calls.as_slice(), tables, scratch, log)?
+            }
+            Step::Change(line) => change(output, session, line, tables)?,
+            Step::Skip => session,
+        };
+        at = next;
     }
     Ok(())
 }

@@ -11,7 +11,7 @@ use Rattle.audit.specs.Decides.{Decides}
 use Rattle.audit.specs.Parts.{Audited}
 use Rattle.audit.proofs.DecideLaws.{failed, passed}
 use Rattle.sound.specs.Sound.{Shaped, Sound}
-use Rattle.run.specs.Run.{Lent, lent_of, Lengths, CanAnswer, Answered, Ran, misshapen, unsound, done, scratch_zero}
+use Rattle.run.specs.Run.{Lent, lent_of, code_of, records_of, Lengths, CanAnswer, Answered, Ran, misshapen, unsound, done, scratch_zero}
 use Rattle.run.specs.declared.RunAnswer.{RunAnswer}
 use Rattle.run.proofs.OneAnswer.{count_one}
 
@@ -55,10 +55,10 @@ module _ (m : Lent) (lengths : Lengths m) where
     -- and their answers are the run's.
     pub answered_ran : {s : Store} {scratch answers log : List ℕ} {r : RunAnswer} → scratch ≡ scratch_zero m
         → Answered m.store m.calls m.answers m.log s answers log r
-        → Ran m (record { store = s; scratch = scratch; calls = m.calls; answers = answers; log = log }) r.code r.records
+        → Ran m (record { store = s; scratch = scratch; calls = m.calls; answers = answers; log = log }) (code_of r.records) (records_of r.records)
     answered_ran zero a =
         let e : a.count ≡ lengths.count = count_one a.counted lengths.whole_calls in
-        rw (zero, a.code, a.records, a.store_after, a.answers_after, a.log_after, e) (done lengths sound)
+        rw (zero, a.records, a.store_after, a.answers_after, a.log_after, e) (done lengths sound)
 
 -- The same, said of what the two tests answer and of the words that are lent.
 module _
@@ -94,6 +94,6 @@ module _
         -- and their answers are the run's.
         pub ran_answered : (slots' links' owners' heads' answers' log' : List ℕ) (r : RunAnswer) → sound ≡ true
             → Answered (store_of slots links owners heads c) calls answers log (store_of slots' links' owners' heads' r.counters) answers' log' r
-            → Ran (lent_of slots links owners heads c scratch calls answers log) (lent_of slots' links' owners' heads' r.counters scratch' calls answers' log') r.code r.records
+            → Ran (lent_of slots links owners heads c scratch calls answers log) (lent_of slots' links' owners' heads' r.counters scratch' calls answers' log') (code_of r.records) (records_of r.records)
         ran_answered slots' links' owners' heads' answers' log' r is said =
             answered_ran (lent_of slots links owners heads c scratch calls answers log) (passed tested whole) (passed audited.verdict is) audited.scratch_after said

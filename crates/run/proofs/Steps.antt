@@ -16,10 +16,10 @@ use Rattle.slabs.specs.declared.node_entry.NodeEntry.TheVariants.{Free, Node}
 use Rattle.edits.specs.Store.{Store, store_of, node_at, on_node}
 use Rattle.edits.specs.Fit.{Fit}
 use Rattle.edits.specs.Steps.{most}
-use Rattle.edits.specs.Answer.{is_done, answer_words}
+use Rattle.edits.specs.Answer.{is_done, answer_words, Answer, done}
 use Rattle.edits.specs.declared.answer.AnswerWords.{AnswerWords}
-use Rattle.edits.specs.declared.answer.Answer.{Answer}
-use Rattle.edits.specs.declared.answer.Answer.TheVariants.{Done, TooManyPorts, LogFull}
+use Rattle.edits.specs.declared.answer.Refusal.TheVariants.{TooManyPorts, LogFull}
+use Rattle.std.specs.Prelude.{Ok, Err}
 use Rattle.renumber.specs.Records.{Rec, record_width}
 use Rattle.renumber.specs.Resize.{is_idle, change_answer, resize_answer, resized, resize_records}
 use Rattle.renumber.specs.Room.{LogFits}
@@ -38,7 +38,7 @@ use Rattle.renumber.proofs.ResizeLaws.{resize_records-length}
 use Rattle.renumber.proofs.AnswerLaws.{change_granted}
 use Rattle.sound.proofs.Fits.{sound_fit}
 use Rattle.sound.proofs.Kept.{each_call}
-use Rattle.sound.proofs.Shapes.{SameShape, call_shaped}
+use Rattle.sound.proofs.Shapes.{call_shaped}
 use Rattle.sound.proofs.Calls.{call_sound}
 
 -- A call writes no more records than remain where those of a call that is done are no more.
@@ -57,7 +57,7 @@ compact_enough : (count left : ℕ) → is_done (compact_answer count left) ≡ 
 unfolding compact_answer
 compact_enough count left d = go (ltb left count) refl d
   where
-    go : (t : Bool) → ltb left count ≡ t → is_done (pick t LogFull (Done count 0 0)) ≡ true → count ≤ left
+    go : (t : Bool) → ltb left count ≡ t → is_done (pick t (Err LogFull) (done count 0 0)) ≡ true → count ≤ left
     go true e d = absurd (let z : ◌≡◌ {A = ℕ} 0 1 = cc in omega arith)
     go false e d = ltb-false left count e
 
@@ -71,7 +71,7 @@ resize_change s left node inlets outlets m e d = go (ltb most inlets) (ltb most 
     change : Answer
     change = change_answer (length s.links) s.heads s.counters.portmark left (record { node = node; meta = m; inlets = inlets; outlets = outlets })
 
-    go : (t u : Bool) → is_done (pick t TooManyPorts (pick u TooManyPorts change)) ≡ true → is_done change ≡ true
+    go : (t u : Bool) → is_done (pick t (Err TooManyPorts) (pick u (Err TooManyPorts) change)) ≡ true → is_done change ≡ true
     go true u d = absurd (let z : ◌≡◌ {A = ℕ} 0 1 = cc in omega arith)
     go false true d = absurd (let z : ◌≡◌ {A = ℕ} 0 1 = cc in omega arith)
     go false false d = d
@@ -171,15 +171,9 @@ pub became_store : {after : After} {log : List ℕ} {to : LogPlace} {slots links
 became_store b =
     λ j. record { slots = b.slots_after j; links = b.links_after j; owners = b.owners_after j; heads = b.heads_after j; counters = b.counters j }
 
--- Lengths that are kept twice are kept.
-same_shape : {s t u : Store} → SameShape s t → SameShape t u → SameShape s u
-same_shape a b =
-    record { slots = b.slots ∙ a.slots; links = b.links ∙ a.links; owners = b.owners ∙ a.owners; heads = b.heads ∙ a.heads }
-
 -- The invariant of the loop over the calls: this store, these answers and this log stand after i calls, and so many records are written.
 pub record Stands (s : Store) (calls answers log : List ℕ) (s' : Store) (answers' log' : List ℕ) (at i : ℕ) : Type 0 where
   pub begun : call_width * i ≤ length calls
-  pub shape : SameShape s s'
   pub store_after : s' ≡ (stepped s calls answers log i).store
   pub answers_after : answers' ≡ (stepped s calls answers log i).answers
   pub log_after : log' ≡ (stepped s calls answers log i).log
@@ -189,17 +183,16 @@ pub record Stands (s : Store) (calls answers log : List ℕ) (s' : Store) (answe
 pub stands_first : (s : Store) (calls answers log : List ℕ) → Stands s calls answers log s answers log 0 0
 unfolding stepped
 stands_first s calls answers log =
-    record { begun = omega arith; shape = record { slots = refl; links = refl; owners = refl; heads = refl }; store_after = refl; answers_after = refl; log_after = refl; written = refl }
+    record { begun = omega arith; store_after = refl; answers_after = refl; log_after = refl; written = refl }
 
 module _ {s : Store} {calls answers log : List ℕ} {s' : Store} {answers' log' : List ℕ} {at i : ℕ} (now : Stands s calls answers log s' answers' log' at i) where
   -- after the last it is what the run leaves,
-  pub stands_last : {r : RunAnswer} → length calls ≤ call_width * i → r.code ≡ 0 → r.records ≡ at → Answered s calls answers log s' answers' log' r
-  stands_last end code records =
+  pub stands_last : {r : RunAnswer} → length calls ≤ call_width * i → r.records ≡ Ok at → Answered s calls answers log s' answers' log' r
+  stands_last end records =
       record {
         count = i;
         counted = omega arith;
-        code = code;
-        records = records ∙ now.written;
+        records = records ∙ ap Ok now.written;
         store_after = now.store_after;
         answers_after = now.answers_after;
         log_after = now.log_after;
@@ -209,19 +202,17 @@ module _ {s : Store} {calls answers log : List ℕ} {s' : Store} {answers' log' 
   pub stands_next : {call : Call} {slots links owners heads answers'' log'' : List ℕ} {r : Outcome} {words : AnswerWords} → call_width * i + call_width ≤ length calls
       → call ≡ call_at calls i
       → Became (call_of s' (remaining log' (record { at = at; place = i })) call) log' (record { at = at; place = i }) slots links owners heads log'' r
-      → SameShape s' (store_of slots links owners heads r.counters)
       → words ≡ answer_words r.answer
       → answers'' ≡ set_answer answers' i words
       → Stands s calls answers log (store_of slots links owners heads r.counters) answers'' log'' r.to.at (i + 1)
   unfolding one_more
-  stands_next {call} more this became kept said wrote =
+  stands_next {call} more this became said wrote =
       let w : Midway = stepped s calls answers log i in
       let next : one_more w (call_at calls i) i ≡ stepped s calls answers log (i + 1) = rw (add-one i) (sym (stepped_next s calls answers log i)) in
       let same : call_of s' (length log' / record_width - at) call ≡ call_of w.store (length w.log / record_width - w.written) (call_at calls i) =
       rw (now.store_after, now.log_after, now.written, this) in
       record {
         begun = omega arith;
-        shape = same_shape now.shape kept;
         store_after = rw (← next) (became_store became ∙ ap (λ (a : After). a.store) same);
         answers_after = rw (← next, wrote, said, became.answer, same, now.answers_after);
         log_after = rw (← next, became.log_after, same, now.log_after, now.written);

@@ -1,9 +1,10 @@
 -- A run of calls over lent memory (document 01, "Lent memory", and what the whole run answers): 20, else 21, else every call in order.
-use Rattle.std.specs.Prelude.{ℕ, suc, zero, ◌+◌, ◌-◌, ◌*◌, ◌/◌, ◌≤◌, ◌≡◌, List, length, get_or, set}
+use Rattle.std.specs.Prelude.{ℕ, suc, zero, ◌+◌, ◌-◌, ◌*◌, ◌/◌, ◌≤◌, ◌≡◌, List, Result, Ok, Err, length, get_or, set}
 use Rattle.slabs.specs.NodeEntry.{width}
 use Rattle.slabs.specs.Slab.{filled}
 use Rattle.slabs.specs.declared.counters.Counters.{Counters}
-use Rattle.edits.specs.Store.{Store, store_of}
+use Rattle.edits.specs.Store.{Store, store_of, store_in}
+use Rattle.edits.specs.declared.store.Tables.{Tables}
 use Rattle.edits.specs.Answer.{answer_words}
 use Rattle.edits.specs.declared.answer.AnswerWords.{AnswerWords}
 use Rattle.renumber.specs.Records.{record_width, logged}
@@ -11,6 +12,8 @@ use Rattle.calls.specs.Call.{After, call_of}
 use Rattle.calls.specs.declared.Call.{Call}
 use Rattle.sound.specs.Sound.{Shaped, Sound}
 use Rattle.run.specs.declared.RunAnswer.{RunAnswer}
+use Rattle.run.specs.declared.RunRefusal.{RunRefusal}
+use Rattle.run.specs.declared.RunRefusal.TheVariants.{Misshapen, Unsound}
 
 -- everything that is lent to a run, and the counters
 pub record Lent : Type 0 where
@@ -23,6 +26,10 @@ pub record Lent : Type 0 where
 abbrev pub lent_of : List ℕ → List ℕ → List ℕ → List ℕ → Counters → List ℕ → List ℕ → List ℕ → List ℕ → Lent
 lent_of slots links owners heads c scratch calls answers log =
     record { store = store_of slots links owners heads c; scratch = scratch; calls = calls; answers = answers; log = log }
+
+-- the same of tables that are lent together
+abbrev pub lent_in : Tables → Counters → List ℕ → List ℕ → List ℕ → List ℕ → Lent
+lent_in t c scratch calls answers log = record { store = store_in t c; scratch = scratch; calls = calls; answers = answers; log = log }
 
 -- the words of a call, and of an answer
 abbrev pub call_width : ℕ
@@ -117,11 +124,25 @@ pub record CanAnswer (s : Store) (calls answers log : List ℕ) : Type 0 where
 pub record Answered (s : Store) (calls answers log : List ℕ) (s' : Store) (answers' log' : List ℕ) (r : RunAnswer) : Type 0 where
   pub count : ℕ
   pub counted : length calls ≡ call_width * count
-  pub code : r.code ≡ 0
-  pub records : r.records ≡ (stepped s calls answers log count).written
+  pub records : r.records ≡ Ok (stepped s calls answers log count).written
   pub store_after : s' ≡ (stepped s calls answers log count).store
   pub answers_after : answers' ≡ (stepped s calls answers log count).answers
   pub log_after : log' ≡ (stepped s calls answers log count).log
+
+-- the number of a refusal: of broken lengths, and of a store that is not sound
+abbrev pub refusal_code : RunRefusal → ℕ
+refusal_code Misshapen = 20
+refusal_code Unsound = 21
+
+-- the number that a run answers with,
+abbrev pub code_of : Result ℕ RunRefusal → ℕ
+code_of (Ok records) = 0
+code_of (Err refusal) = refusal_code refusal
+
+-- and the number of records that it reports
+abbrev pub records_of : Result ℕ RunRefusal → ℕ
+records_of (Ok records) = records
+records_of (Err refusal) = 0
 
 -- What a run does: the memory before and after, its answer, and how many records it reports.
 pub data Ran (m : Lent) : Lent → ℕ → ℕ → Type 0 where

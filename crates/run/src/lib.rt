@@ -2,21 +2,40 @@
 #![tactic(auto)]
 
 ghost use Rattle.std.specs.Prelude.{◌≡◌, ◌+◌, ◌*◌, ◌≤◌, length};
-ghost use Rattle.edits.specs.Store.{store_of};
-ghost use Rattle.run.specs.Run.{call_width, call_at, set_answer, lent_of, Ran, CanAnswer, Answered};
+ghost use Rattle.edits.specs.Store.{store_in, SameMemory};
+ghost use Rattle.run.specs.Run.{call_width, call_at, set_answer, refusal_code, code_of, records_of, lent_in, Ran, CanAnswer, Answered};
 
 pub mod shape;
 
 use calls::Call;
 use edits::answer::AnswerWords;
+use edits::store::Tables;
 use renumber::log::LogPlace;
 use slabs::counters::Counters;
 
-// What a run says: 20, 21 or 0; how many records it wrote; and the counters after it.
+// Why a run answers no call: a length is broken, or the store is not sound.
+#[derive(Clone, Copy, PartialEq, Eq)]
+pub enum RunRefusal {
+    Misshapen,
+    Unsound,
+}
+
+impl From<RunRefusal> for u32 {
+    ghost from_gives = { λ refusal code. code ≡ refusal_code refusal };
+
+    // The number of the refusal.
+    fn from(refusal: RunRefusal) -> u32 {
+        match refusal {
+            RunRefusal::Misshapen => 20,
+            RunRefusal::Unsound => 21,
+        }
+    }
+}
+
+// What a run says: how many records it wrote, or why it answered no call; and the counters after it.
 #[derive(Clone, Copy)]
 pub struct RunAnswer {
-    pub code: u32,
-    pub records: u32,
+    pub records: Result<u32, RunRefusal>,
     pub counters: Counters,
 }
 
@@ -51,34 +70,27 @@ fn write_answer(answers: &mut [u32], i: usize, words: AnswerWords)
 
 // The calls of a run over a sound store, each with what remains of the log.
 fn answer_calls(
-    slots: &mut [u32],
-    links: &mut [u32],
-    owners: &mut [u32],
-    heads: &mut [u32],
+    tables: &mut Tables<'_>,
     calls: &[u32],
     answers: &mut [u32],
     log: &mut [u32],
     counters: Counters,
 ) -> RunAnswer
-    requires { CanAnswer (store_of slots.old links.old owners.old heads.old counters) calls.now answers.old log.old }
-    ensures { Answered (store_of slots.old links.old owners.old heads.old counters) calls.now answers.old log.old (store_of slots.new links.new owners.new heads.new result.counters) answers.new log.new result }
+    requires { CanAnswer (store_in tables.old counters) calls.now answers.old log.old }
+    ensures memory { SameMemory tables.old tables.new }
+    ensures calls { Answered (store_in tables.old counters) calls.now answers.old log.old (store_in tables.new result.counters) answers.new log.new result }
 {
     let mut after = counters;
-    let mut at: usize = 0;
-    let mut i: u32 = 0;
-    while CALL * (i as usize) < calls.len() {
-        let call = read_call(calls, i as usize);
-        let to = LogPlace { at, place: i };
-        let done = calls::dispatch(slots, links, owners, heads, log, after, to, call);
-        let answer = done.answer;
-        write_answer(answers, i as usize, edits::answer::answer_words(answer));
+    let mut at = 0;
+    for place in 0..(calls.len() / CALL) as u32 {
+        let call = read_call(calls, place as usize);
+        let done = calls::dispatch(tables, log, after, LogPlace { at, place }, call);
+        write_answer(answers, place as usize, AnswerWords::from(done.answer));
         after = done.counters;
         at = done.to.at;
-        i += 1;
     }
     RunAnswer {
-        code: 0,
-        records: at as u32,
+        records: Ok(at as u32),
         counters: after,
     }
 }
@@ -86,40 +98,37 @@ fn answer_calls(
 // Answers a run of calls over the lent memory.
 #[tactic(auto, using(crate::proofs::RunLaws::ran_misshapen, crate::proofs::RunLaws::ran_shaped, crate::proofs::RunLaws::ran_unsound, crate::proofs::RunLaws::ran_sound, crate::proofs::RunLaws::ran_answered))]
 pub fn run(
-    slots: &mut [u32],
-    links: &mut [u32],
-    owners: &mut [u32],
-    heads: &mut [u32],
+    tables: &mut Tables<'_>,
     scratch: &mut [u32],
     calls: &[u32],
     answers: &mut [u32],
     log: &mut [u32],
     counters: Counters,
 ) -> RunAnswer
-    ensures { Ran (lent_of slots.old links.old owners.old heads.old counters scratch.old calls.now answers.old log.old) (lent_of slots.new links.new owners.new heads.new result.counters scratch.new calls.now answers.new log.new) result.code result.records }
+    ensures memory { SameMemory tables.old tables.new }
+    ensures run { Ran (lent_in tables.old counters scratch.old calls.now answers.old log.old) (lent_in tables.new result.counters scratch.new calls.now answers.new log.new) (code_of result.records) (records_of result.records) }
 {
+    let view = tables.view();
     if !shape::well_shaped(
-        slots.len(),
-        links.len(),
-        owners.len(),
-        heads.len(),
+        view.slots.len(),
+        view.links.len(),
+        view.owners.len(),
+        view.heads.len(),
         scratch.len(),
         calls.len(),
         answers.len(),
         log.len(),
     ) {
         return RunAnswer {
-            code: 20,
-            records: 0,
+            records: Err(RunRefusal::Misshapen),
             counters,
         };
     }
-    if !audit::audit(slots, links, owners, heads, scratch, counters) {
+    if !audit::audit(view, scratch, counters) {
         return RunAnswer {
-            code: 21,
-            records: 0,
+            records: Err(RunRefusal::Unsound),
             counters,
         };
     }
-    answer_calls(slots, links, owners, heads, calls, answers, log, counters)
+    answer_calls(tables, calls, answers, log, counters)
 }

@@ -6,10 +6,7 @@ ghost use Rattle.run.specs.Run.{LengthsOf, WholeUpTo};
 fn whole(n: usize, most: usize) -> bool
     ensures { Decides result (WholeUpTo n most) }
 {
-    if n % 4 != 0 {
-        return false;
-    }
-    n / 4 <= most
+    n % 4 == 0 && n / 4 <= most
 }
 
 pub fn well_shaped(
@@ -24,29 +21,13 @@ pub fn well_shaped(
 ) -> bool
     ensures { Decides result (LengthsOf slots links owners heads scratch calls answers log) }
 {
-    if !whole(slots, 65536) {
-        return false;
-    }
-    if owners != links {
-        return false;
-    }
-    if 1048576 < links {
-        return false;
-    }
-    if heads < 1 {
-        return false;
-    }
-    if 32768 < heads {
-        return false;
-    }
-    if scratch < slots / 4 + links {
-        return false;
-    }
-    if !whole(calls, 256) {
-        return false;
-    }
-    if answers < calls {
-        return false;
-    }
-    whole(log, 1048576)
+    whole(slots, 65536)
+        && owners == links
+        && links <= 1048576
+        && 1 <= heads
+        && heads <= 32768
+        && slots / 4 + links <= scratch
+        && whole(calls, 256)
+        && calls <= answers
+        && whole(log, 1048576)
 }

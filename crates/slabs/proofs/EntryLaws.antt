@@ -1,15 +1,22 @@
 -- What owner words and slot words say once they are written: an entry that is stored is read back, and no other slot changes.
-use Prim.Native.Nat.{ℕ, suc, zero, ◌+◌, ◌*◌, ◌≤◌, ◌<◌}
+use Prim.Native.Nat.{ℕ, suc, zero, ◌+◌, ◌-◌, ◌*◌, ◌≤◌, ◌<◌}
 use mathlib.Core.List.{List}
-use mathlib.Core.Path.{◌≡◌, refl, ◌∙◌}
+use mathlib.Core.Path.{◌≡◌, refl, ap, ◌∙◌}
 use native.Mathlib.Omega.{arith}
 use native.Mathlib.Nat.{add-sub_cancel}
 use lib.ListN.{length, get_or, set, length-set}
 use lib.Seq.{get_or-set_same, get_or-set_other}
 use lib.Dec.{leb}
 use borrow.Author.Tests.{ne_eqb, le-leb, lt-leb}
-use Rattle.slabs.specs.PortEntry.{outlet_bit, owner_word, direction_of, node_of, port_entry}
-use Rattle.slabs.specs.declared.port_entry.PortEntry.TheVariants.{Port}
+use mathlib.Core.Bool.{Bool, true, false}
+use Rattle.std.specs.Prelude.{Option, Some, None, SomeIff, eqb}
+use Rattle.slabs.specs.Choice.{pick}
+use Rattle.slabs.specs.Links.{link_at}
+use Rattle.slabs.specs.PortEntry.{outlet_bit, direction_word, owner_word, direction_of, facing, node_of, port_entry}
+use denote.Enum.Bare.{sameb}
+use Rattle.slabs.specs.contracts.port_entry.Direction.{the_type}
+use Rattle.slabs.specs.declared.port_entry.Direction.{Direction}
+use Rattle.slabs.specs.declared.port_entry.Direction.TheVariants.{Incoming, Outgoing}
 use Rattle.slabs.specs.NodeEntry.{width, slot_word, node_entry, set_slot, set_entry}
 use Rattle.slabs.specs.declared.node_entry.NodeMeta.{NodeMeta}
 use Rattle.slabs.specs.declared.node_entry.NodeEntry.{NodeEntry}
@@ -34,16 +41,69 @@ owner_node node zero h k = simp (le-leb (owner_word node 0) outlet_bit (omega ar
 owner_node node (suc zero) h k = simp (lt-leb (owner_word node 1) outlet_bit (omega arith)) (omega arith)
 owner_node node (suc (suc d)) h k = absurd (omega arith)
 
--- and so both.
-pub owner_entry : (node d : ℕ) → node < 65536 → d ≤ 1 → port_entry (owner_word node d) ≡ Port node d
+-- its direction by name,
+pub owner_facing : (node : ℕ) (d : Direction) → node < 65536 → facing (owner_word node (direction_word d)) ≡ d
+unfolding facing
+owner_facing node Incoming h = simp (le-leb (owner_word node 0) outlet_bit (omega arith))
+owner_facing node Outgoing h = simp (lt-leb (owner_word node 1) outlet_bit (omega arith))
+
+-- A direction's word is 0 or 1.
+pub direction_word_le : (d : Direction) → direction_word d ≤ 1
+direction_word_le Incoming = omega arith
+direction_word_le Outgoing = omega arith
+
+-- and so all that it says.
+pub owner_entry : (node : ℕ) (d : Direction) → node < 65536
+    → port_entry (owner_word node (direction_word d)) ≡ Some (record { node = node; direction = d })
 unfolding port_entry
-owner_entry node d h k =
-    simp (ne_eqb (owner_word node d) 0 (owner_live node d), owner_node node d h k, owner_direction node d h k)
+owner_entry node d h =
+    simp (ne_eqb (owner_word node (direction_word d)) 0 (owner_live node (direction_word d)), owner_node node (direction_word d) h (direction_word_le d), owner_facing node d h)
+
+-- The direction by name and by its word is the same.
+pub facing_word : (w : ℕ) → direction_word (facing w) ≡ direction_of w
+unfolding facing direction_of
+facing_word w = go (leb w outlet_bit)
+  where
+    go : (b : Bool) → direction_word (pick b Incoming Outgoing) ≡ pick b 0 1
+    go true = refl
+    go false = refl
 
 -- A direction is 0 or 1.
 pub direction_le : (w : ℕ) → direction_of w ≤ 1
 unfolding direction_of
 direction_le w = pick_bit (leb w outlet_bit)
+
+-- Two directions are the same exactly where their words are.
+pub same_direction : (a b : Direction) → sameb the_type a b ≡ eqb (direction_word a) (direction_word b)
+same_direction Incoming Incoming = refl
+same_direction Incoming Outgoing = refl
+same_direction Outgoing Incoming = refl
+same_direction Outgoing Outgoing = refl
+
+-- What a link word less 1 is, where it is not 0, is what the definition of a port's partner says.
+pub link_word : (w : ℕ) (r : Option ℕ) → SomeIff r (1 ≤ w) (w - 1) → r ≡ pick (eqb w 0) None (Some (w - 1))
+link_word zero None n = refl
+link_word zero (Some q) h = absurd (omega (arith, h.0))
+link_word (suc w) None n = absurd (n (omega arith))
+link_word (suc w) (Some q) h = simp (ne_eqb (suc w) 0 (omega arith)) (ap Some h.1)
+
+-- A port without a partner has the word 0,
+pub link_none : (links : List ℕ) (p : ℕ) → link_at links p ≡ None → get_or links p 0 ≡ 0
+unfolding link_at
+link_none links p e = go (get_or links p 0) e
+  where
+    go : (w : ℕ) → pick (eqb w 0) None (Some (w - 1)) ≡ None → w ≡ 0
+    go zero e = refl
+    go (suc w) e = grind arith
+
+-- and the word of another is its partner plus 1.
+pub link_some : (links : List ℕ) (p q : ℕ) → link_at links p ≡ Some q → get_or links p 0 ≡ suc q
+unfolding link_at
+link_some links p q e = go (get_or links p 0) e
+  where
+    go : (w : ℕ) → pick (eqb w 0) None (Some (w - 1)) ≡ Some q → w ≡ suc q
+    go zero e = grind arith
+    go (suc w) e = grind arith
 
 -- A written entry leaves the table's length.
 pub set_entry-length : (slots : List ℕ) (k : ℕ) (e : NodeEntry) → length (set_entry slots k e) ≡ length slots

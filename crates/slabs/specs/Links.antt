@@ -1,14 +1,12 @@
 -- Link words (document 01, "Lent memory", links, and rule 6): partner plus 1, or 0. What cutting a wire does to them.
-use Rattle.std.specs.Prelude.{ℕ, suc, zero, ◌+◌, ◌-◌, ◌≤◌, ◌≡◌, List, length, get_or, set, eqb}
+use Rattle.std.specs.Prelude.{ℕ, suc, zero, ◌+◌, ◌-◌, ◌≤◌, ◌≡◌, List, Option, Some, None, length, get_or, set, eqb}
 use Rattle.slabs.specs.Choice.{pick}
 use Rattle.slabs.specs.Sums.{sum}
 use Rattle.slabs.specs.PortEntry.{Live, direction_of}
-use Rattle.slabs.specs.declared.links.Link.{Link}
-use Rattle.slabs.specs.declared.links.Link.TheVariants.{Loose, To}
 
--- what the link word of port p says
-unfoldable pub link_at : List ℕ → ℕ → Link
-link_at links p = pick (eqb (get_or links p 0) 0) Loose (To (get_or links p 0 - 1))
+-- what the link word of port p says: its partner, or none
+unfoldable pub link_at : List ℕ → ℕ → Option ℕ
+link_at links p = pick (eqb (get_or links p 0) 0) None (Some (get_or links p 0 - 1))
 
 -- each link word is 0 or names a port of the table
 abbrev pub Inside : List ℕ → Type 0

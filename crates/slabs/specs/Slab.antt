@@ -5,7 +5,6 @@ use Rattle.slabs.specs.PortEntry.{owner_word}
 use Rattle.slabs.specs.Links.{Inside, cut_run, wires_in}
 use Rattle.slabs.specs.Counters.{port_marked}
 use Rattle.slabs.specs.declared.counters.Counters.{Counters}
-use Rattle.slabs.specs.declared.slab.Taken.{Taken}
 
 -- the head word of the chain of this size
 abbrev pub head_of : List ℕ → ℕ → ℕ
@@ -66,10 +65,10 @@ pub record CanTake (links heads : List ℕ) (c : Counters) (size : ℕ) : Type 0
   pub head_inside : head_of heads size ≤ length links
   pub had : at_hand heads c.portmark (length links) size ≡ true
 
--- What taking a slab of this size does.
-pub record TookSlab (links heads : List ℕ) (c : Counters) (size : ℕ) (links' heads' : List ℕ) (r : Taken) : Type 0 where
-  pub first : r.first ≡ taken_first heads c.portmark size
-  pub counters : r.counters ≡ taken_counters heads c size
+-- What taking a slab of this size does: its first port, and the counters, links and heads after it.
+pub record TookSlab (links heads : List ℕ) (c : Counters) (size : ℕ) (links' heads' : List ℕ) (first' : ℕ) (c' : Counters) : Type 0 where
+  pub first : first' ≡ taken_first heads c.portmark size
+  pub counters : c' ≡ taken_counters heads c size
   pub links_after : links' ≡ taken_links links heads size
   pub heads_after : heads' ≡ taken_heads links heads size
 

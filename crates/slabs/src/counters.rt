@@ -2,7 +2,7 @@
 ghost use Rattle.std.specs.Prelude.{◌≡◌, ◌+◌, ◌-◌, ◌<◌};
 ghost use Rattle.slabs.specs.Counters.{none_counted, link_counted, links_uncounted, slab_freed, mark_raised, node_mark_raised, free_slot_moved, node_counted, node_uncounted, ports_recounted, nodes_packed, ports_packed};
 
-#[derive(Clone, Copy)]
+#[derive(Clone, Copy, Default, PartialEq, Eq)]
 pub struct Counters {
     pub nodemark: u32,
     pub portmark: u32,
@@ -12,47 +12,33 @@ pub struct Counters {
     pub links: u32,
 }
 
-// a less b, and 0 where b is more: a count never falls below none, whatever words it came from.
-pub fn less(a: u32, b: u32) -> u32
-    ensures { result ≡ a - b }
-{
-    if b < a { a - b } else { 0 }
-}
-
 impl Counters {
     pub fn none_counted() -> Self
         ensures { result ≡ none_counted }
     {
-        Counters {
-            nodemark: 0,
-            portmark: 0,
-            freeslot: 0,
-            nodes: 0,
-            ports: 0,
-            links: 0,
-        }
+        Self::default()
     }
 
     pub fn link_counted(mut self) -> Self
         requires { self.links + 1 < 4294967296 }
         ensures { result ≡ link_counted self }
     {
-        self.links = self.links + 1;
+        self.links += 1;
         self
     }
 
     pub fn links_uncounted(mut self, wires: u32) -> Self
         ensures { result ≡ links_uncounted self wires }
     {
-        self.links = less(self.links, wires);
+        self.links = self.links.saturating_sub(wires);
         self
     }
 
     pub fn slab_freed(mut self, live: u32, wires: u32) -> Self
         ensures { result ≡ slab_freed self live wires }
     {
-        self.ports = less(self.ports, live);
-        self.links = less(self.links, wires);
+        self.ports = self.ports.saturating_sub(live);
+        self.links = self.links.saturating_sub(wires);
         self
     }
 
@@ -60,7 +46,7 @@ impl Counters {
         requires { self.portmark + size < 4294967296 }
         ensures { result ≡ mark_raised self size }
     {
-        self.portmark = self.portmark + size;
+        self.portmark += size;
         self
     }
 
@@ -68,7 +54,7 @@ impl Counters {
         requires { self.nodemark + 1 < 4294967296 }
         ensures { result ≡ node_mark_raised self }
     {
-        self.nodemark = self.nodemark + 1;
+        self.nodemark += 1;
         self
     }
 
@@ -83,15 +69,15 @@ impl Counters {
         requires { (self.nodes + 1 < 4294967296) × (self.ports + live < 4294967296) }
         ensures { result ≡ node_counted self live }
     {
-        self.nodes = self.nodes + 1;
-        self.ports = self.ports + live;
+        self.nodes += 1;
+        self.ports += live;
         self
     }
 
     pub fn node_uncounted(mut self) -> Self
         ensures { result ≡ node_uncounted self }
     {
-        self.nodes = less(self.nodes, 1);
+        self.nodes = self.nodes.saturating_sub(1);
         self
     }
 
@@ -99,7 +85,7 @@ impl Counters {
         requires { self.ports + after < 4294967296 }
         ensures { result ≡ ports_recounted self before after }
     {
-        self.ports = less(self.ports, before) + after;
+        self.ports = self.ports.saturating_sub(before) + after;
         self
     }
 

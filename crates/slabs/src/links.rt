@@ -2,23 +2,12 @@
 ghost use Rattle.std.specs.Prelude.{◌≡◌, ◌+◌, ◌≤◌, ◌<◌, length};
 ghost use Rattle.slabs.specs.Links.{link_at, Inside, cut_at, wired_at, cut_run, wires_in};
 
-// What a link word says of its port.
-#[derive(Clone, Copy)]
-pub enum Link {
-    Loose,
-    To(u32),
-}
-
-// Reads the link word of a port.
-pub fn link_at(links: &[u32], port: usize) -> Link
+// Reads the link word of a port: its partner, or none.
+pub fn link_at(links: &[u32], port: usize) -> Option<u32>
     requires { port < length links.now }
     ensures { result ≡ link_at links.now port }
 {
-    let word = links[port];
-    if word == 0 {
-        return Link::Loose;
-    }
-    Link::To(word - 1)
+    links[port].checked_sub(1)
 }
 
 // Cuts the wire at a port, at both its ends, and says how many wires that were: 1 or 0.
@@ -26,12 +15,11 @@ pub fn cut(links: &mut [u32], port: usize) -> u32
     requires { (port < length links.old) × Inside links.old }
     ensures { (links.new ≡ cut_at links.old port) × (result ≡ wired_at links.old port) }
 {
-    let word = links[port];
-    if word == 0 {
+    let Some(partner) = link_at(links, port) else {
         return 0;
-    }
+    };
     links[port] = 0;
-    links[(word - 1) as usize] = 0;
+    links[partner as usize] = 0;
     1
 }
 
@@ -41,10 +29,8 @@ pub fn cut_run(links: &mut [u32], first: usize, n: usize) -> u32
     ensures { (links.new ≡ cut_run links.old first n) × (result ≡ wires_in links.old first n) }
 {
     let mut wires: u32 = 0;
-    let mut i = 0;
-    while i < n {
+    for i in 0..n {
         wires += cut(links, first + i);
-        i += 1;
     }
     wires
 }

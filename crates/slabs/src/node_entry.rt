@@ -2,11 +2,13 @@
 ghost use Rattle.std.specs.Prelude.{◌≡◌, ◌+◌, ◌*◌, ◌≤◌, length};
 ghost use Rattle.slabs.specs.NodeEntry.{width, node_entry, set_slot, set_entry, inlets_of, inlet_ports, outlet_ports, spare_ports};
 
+use std::ops::Range;
+
 // The words of a slot. A later request adds a fifth.
 pub const WIDTH: usize = 4;
 
 // A live slot: its slab starts at `first` and holds `capacity` ports.
-#[derive(Clone, Copy)]
+#[derive(Clone, Copy, PartialEq, Eq)]
 pub struct NodeMeta {
     pub first: u32,
     pub inlets: u32,
@@ -15,49 +17,34 @@ pub struct NodeMeta {
 }
 
 // What a slot says. The neighbours of a free slot are kept plus 1, and 0 is none.
-#[derive(Clone, Copy)]
+#[derive(Clone, Copy, PartialEq, Eq)]
 pub enum NodeEntry {
     Free { previous: u32, next: u32 },
     Node(NodeMeta),
 }
 
-// Ports from `start` up to, and not including, `end`.
-#[derive(Clone, Copy)]
-pub struct PortRange {
-    pub start: usize,
-    pub end: usize,
-}
-
+// The ports of a live slot, each kind in a row.
 impl NodeMeta {
-    pub fn inlet_ports(self) -> PortRange
+    pub fn inlet_ports(self) -> Range<usize>
         ensures { result ≡ inlet_ports self }
     {
         let start = self.first as usize;
-        PortRange {
-            start,
-            end: start + self.inlets as usize,
-        }
+        start..start + self.inlets as usize
     }
 
-    pub fn outlet_ports(self) -> PortRange
+    pub fn outlet_ports(self) -> Range<usize>
         ensures { result ≡ outlet_ports self }
     {
         let start = self.first as usize + self.inlets as usize;
-        PortRange {
-            start,
-            end: start + self.outlets as usize,
-        }
+        start..start + self.outlets as usize
     }
 
-    pub fn spare_ports(self) -> PortRange
+    pub fn spare_ports(self) -> Range<usize>
         ensures { result ≡ spare_ports self }
     {
         let first = self.first as usize;
         let start = first + self.inlets as usize + self.outlets as usize;
-        PortRange {
-            start,
-            end: first + self.capacity as usize,
-        }
+        start..first + self.capacity as usize
     }
 }
 

@@ -4,44 +4,36 @@ ghost use Rattle.std.specs.Prelude.{◌≡◌, ◌+◌, ◌≤◌, ◌<◌, leng
 ghost use Rattle.slabs.specs.Slab.{at_hand, CanTake, TookSlab, filled, owners_written, CanFree, FreedSlab};
 
 use crate::counters::Counters;
-use crate::{links, port_entry};
+use crate::links;
+use crate::port_entry::{Direction, owner_word};
 
 // Whether a slab of this size can be had. `room` is the length of the port tables.
 pub fn at_hand(heads: &[u32], mark: u32, room: usize, size: u32) -> bool
     requires { (1 ≤ size) × (size ≤ length heads.now) }
     ensures { result ≡ at_hand heads.now mark room size }
 {
-    let head = heads[(size - 1) as usize];
-    if head != 0 {
-        return true;
-    }
-    mark as usize + size as usize <= room
+    heads[(size - 1) as usize] != 0 || mark as usize + size as usize <= room
 }
 
-// A slab that was taken, with the counters after it.
-#[derive(Clone, Copy)]
-pub struct Taken {
-    pub first: u32,
-    pub counters: Counters,
-}
-
-// Takes a slab of this size.
-pub fn take_slab(links: &mut [u32], heads: &mut [u32], counters: Counters, size: u32) -> Taken
+// Takes a slab of this size, and gives its first port and the counters after it.
+pub fn take_slab(
+    links: &mut [u32],
+    heads: &mut [u32],
+    counters: Counters,
+    size: u32,
+) -> (u32, Counters)
     requires { CanTake links.old heads.old counters size }
-    ensures { TookSlab links.old heads.old counters size links.new heads.new result }
+    ensures { TookSlab links.old heads.old counters size links.new heads.new result.0 result.1 }
 {
     let chain = (size - 1) as usize;
     let head = heads[chain];
     if head == 0 {
-        return Taken {
-            first: counters.portmark,
-            counters: counters.mark_raised(size),
-        };
+        return (counters.portmark, counters.mark_raised(size));
     }
     let first = head - 1;
     heads[chain] = links[first as usize];
     links[first as usize] = 0;
-    Taken { first, counters }
+    (first, counters)
 }
 
 // Writes one word to n places of a table from `first` on.
@@ -49,11 +41,7 @@ pub fn fill(table: &mut [u32], first: usize, n: usize, word: u32)
     requires { first + n ≤ length table.old }
     ensures { table.new ≡ filled table.old first n word }
 {
-    let mut i = 0;
-    while i < n {
-        table[first + i] = word;
-        i += 1;
-    }
+    table[first..first + n].fill(word);
 }
 
 // Writes the owner words of a node's inlets and outlets, from `first` on.
@@ -61,13 +49,10 @@ pub fn write_owners(owners: &mut [u32], node: u32, first: usize, inlets: usize, 
     requires { (node < 65536) × (first + inlets + outlets ≤ length owners.old) }
     ensures { owners.new ≡ owners_written owners.old node first inlets outlets }
 {
-    fill(owners, first, inlets, port_entry::owner_word(node, 0));
-    fill(
-        owners,
-        first + inlets,
-        outlets,
-        port_entry::owner_word(node, 1),
-    );
+    let inlet = owner_word(node, Direction::Incoming);
+    let outlet = owner_word(node, Direction::Outgoing);
+    fill(owners, first, inlets, inlet);
+    fill(owners, first + inlets, outlets, outlet);
 }
 
 // Frees a slab: cuts its wires, clears its owner words and puts it at the head of its chain. Says how many wires it cut.

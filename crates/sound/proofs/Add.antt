@@ -13,11 +13,12 @@ use Rattle.slabs.specs.NodeEntry.{node_entry, set_entry}
 use Rattle.slabs.specs.declared.node_entry.NodeMeta.{NodeMeta}
 use Rattle.slabs.specs.declared.node_entry.NodeEntry.TheVariants.{Node}
 use Rattle.edits.specs.Store.{Store}
-use Rattle.edits.specs.Answer.{is_done}
+use Rattle.edits.specs.Answer.{is_done, done}
 use Rattle.edits.specs.FreeSlots.{slot_at_hand, next_slot, slot_taken, taken_node_mark, taken_free_slot}
 use Rattle.edits.specs.Steps.{most, add_answer, added, new_slab_at_hand, new_first, new_heads, new_links, new_mark}
 use Rattle.edits.specs.Fit.{CanAdd}
-use Rattle.edits.specs.declared.answer.Answer.TheVariants.{Done, TooManyPorts, SlabTooLarge, NoSlot, NoSlab}
+use Rattle.edits.specs.declared.answer.Refusal.TheVariants.{TooManyPorts, SlabTooLarge, NoSlot, NoSlab}
+use Rattle.std.specs.Prelude.{Err}
 use Rattle.calls.specs.Call.{add_call}
 use Rattle.sound.specs.Sound.{Shaped, LiveSlot, held_at, Owned, Sound}
 use Rattle.sound.proofs.SlotLaws.{slab_held, node_is}
@@ -32,12 +33,12 @@ use Rattle.sound.proofs.Shapes.{new_heads_length}
 pub add_done : (s : Store) (inlets outlets : ℕ) → is_done (add_answer s.slots (length s.links) s.heads s.counters inlets outlets) ≡ true
     → CanAdd s inlets outlets
 unfolding add_answer
-add_done s inlets outlets done =
-    let a = done_past (ltb most inlets) TooManyPorts _ refl done in
-    let b = done_past (ltb most outlets) TooManyPorts _ refl a.1 in
-    let c = done_past (ltb (length s.heads) (inlets + outlets)) SlabTooLarge _ refl b.1 in
-    let d = done_by (slot_at_hand s.slots s.counters) _ NoSlot refl c.1 in
-    let e = done_by (new_slab_at_hand s.heads s.counters.portmark (length s.links) (inlets + outlets)) (Done (next_slot s.counters) 0 0) NoSlab refl d.1 in
+add_done s inlets outlets passed =
+    let a = done_past (ltb most inlets) (Err TooManyPorts) _ refl passed in
+    let b = done_past (ltb most outlets) (Err TooManyPorts) _ refl a.1 in
+    let c = done_past (ltb (length s.heads) (inlets + outlets)) (Err SlabTooLarge) _ refl b.1 in
+    let d = done_by (slot_at_hand s.slots s.counters) _ (Err NoSlot) refl c.1 in
+    let e = done_by (new_slab_at_hand s.heads s.counters.portmark (length s.links) (inlets + outlets)) (done (next_slot s.counters) 0 0) (Err NoSlab) refl d.1 in
     record {
       few_inlets = ltb-false most inlets a.0;
       few_outlets = ltb-false most outlets b.0;

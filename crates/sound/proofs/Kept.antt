@@ -25,8 +25,7 @@ use Rattle.slabs.proofs.SumLaws.{sum_zero}
 use Rattle.edits.specs.Store.{Store, on_node}
 use Rattle.edits.specs.Counts.{live_slots, live_ports}
 use Rattle.edits.specs.Clear.{cleared}
-use Rattle.edits.specs.Answer.{is_done}
-use Rattle.edits.specs.declared.answer.Answer.{Answer}
+use Rattle.edits.specs.Answer.{is_done, Answer}
 use Rattle.renumber.specs.Records.{Rec}
 use Rattle.calls.specs.Call.{After, decided, clear_call, add_call, remove_call, resize_call, link_call, unlink_call, swap_call, compact_nodes_call, compact_ports_call, question, call_of}
 use Rattle.calls.specs.declared.Call.{Call}

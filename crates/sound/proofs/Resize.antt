@@ -12,10 +12,10 @@ use Rattle.slabs.specs.declared.node_entry.NodeMeta.{NodeMeta}
 use Rattle.slabs.specs.declared.node_entry.NodeEntry.{NodeEntry}
 use Rattle.slabs.specs.declared.node_entry.NodeEntry.TheVariants.{Free, Node}
 use Rattle.edits.specs.Store.{Store, node_at, on_node}
-use Rattle.edits.specs.Answer.{is_done}
+use Rattle.edits.specs.Answer.{is_done, Answer}
 use Rattle.edits.specs.Steps.{most}
-use Rattle.edits.specs.declared.answer.Answer.{Answer}
-use Rattle.edits.specs.declared.answer.Answer.TheVariants.{NoNode, TooManyPorts, SlabTooLarge, NoSlab}
+use Rattle.edits.specs.declared.answer.Refusal.TheVariants.{NoNode, TooManyPorts, SlabTooLarge, NoSlab}
+use Rattle.std.specs.Prelude.{Err}
 use Rattle.renumber.specs.Resize.{is_idle, is_in_place, new_size, log_answer, change_answer, resize_answer, resized, resize_records}
 use Rattle.renumber.specs.declared.resize.Change.{Change}
 use Rattle.calls.specs.Call.{decided, change_call, resize_call}
@@ -42,8 +42,8 @@ pub resize_granted : (s : Store) (left : ℕ) (ch : Change) → node_at s.slots 
     → Granted s ch
 unfolding resize_answer change_answer
 resize_granted s left ch is busy done =
-    let few-in = done_past (ltb most ch.inlets) TooManyPorts (pick (ltb most ch.outlets) TooManyPorts live) refl done in
-    let few-out = done_past (ltb most ch.outlets) TooManyPorts live refl few-in.1 in
+    let few-in = done_past (ltb most ch.inlets) (Err TooManyPorts) (pick (ltb most ch.outlets) (Err TooManyPorts) live) refl done in
+    let few-out = done_past (ltb most ch.outlets) (Err TooManyPorts) live refl few-in.1 in
     let changes : is_done change ≡ true = rw is at few-out.1 in
     let (below, entry) = node_at_live s.slots s.counters.nodemark ch.node ch.meta is in
     record {
@@ -53,7 +53,7 @@ resize_granted s left ch is busy done =
       few_outlets = ltb-false most ch.outlets few-out.0;
       sized = λ away. ltb-false (length s.heads) (new_size ch) (large (rw (busy, away) at changes)).0;
       slab = λ away.
-          (done_by (at_hand s.heads s.counters.portmark (length s.links) (new_size ch)) (log_answer left ch) NoSlab refl
+          (done_by (at_hand s.heads s.counters.portmark (length s.links) (new_size ch)) (log_answer left ch) (Err NoSlab) refl
           (large (rw (busy, away) at changes)).1).0;
     }
   where
@@ -64,13 +64,13 @@ resize_granted s left ch is busy done =
     live =
         on_node (node_at s.slots s.counters.nodemark ch.node)
         (λ m. change_answer (length s.links) s.heads s.counters.portmark left (record { node = ch.node; meta = m; inlets = ch.inlets; outlets = ch.outlets }))
-        (NoNode ch.node)
+        (Err (NoNode ch.node))
 
     into : Answer
-    into = pick (at_hand s.heads s.counters.portmark (length s.links) (new_size ch)) (log_answer left ch) NoSlab
+    into = pick (at_hand s.heads s.counters.portmark (length s.links) (new_size ch)) (log_answer left ch) (Err NoSlab)
 
-    large : is_done (pick (ltb (length s.heads) (new_size ch)) SlabTooLarge into) ≡ true → (ltb (length s.heads) (new_size ch) ≡ false) × (is_done into ≡ true)
-    large e = done_past (ltb (length s.heads) (new_size ch)) SlabTooLarge into refl e
+    large : is_done (pick (ltb (length s.heads) (new_size ch)) (Err SlabTooLarge) into) ≡ true → (ltb (length s.heads) (new_size ch) ≡ false) × (is_done into ≡ true)
+    large e = done_past (ltb (length s.heads) (new_size ch)) (Err SlabTooLarge) into refl e
 
 -- Resize keeps a sound store.
 pub resize_sound : (s : Store) → Shaped s → Sound s → (left node inlets outlets : ℕ) → Sound (resize_call s left node inlets outlets).store

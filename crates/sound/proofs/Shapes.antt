@@ -18,7 +18,7 @@ use Rattle.edits.specs.Clear.{cleared}
 use Rattle.edits.specs.FreeSlots.{set_previous, set_next, slot_taken, slot_freed}
 use Rattle.edits.specs.Steps.{new_links, new_heads, added, removed_links, removed_owners, removed_heads, removed}
 use Rattle.edits.specs.Swap.{arrived_slots, arrived_owners, swapped_slots, swapped_owners, swapped}
-use Rattle.edits.specs.declared.answer.Answer.{Answer}
+use Rattle.edits.specs.Answer.{Answer}
 use Rattle.renumber.specs.Records.{Rec}
 use Rattle.renumber.specs.Moves.{moved_run}
 use Rattle.renumber.specs.Resize.{cut_inlets, cut_removed, changed_slots, in_place_owners, resized_in_place, moved_into, reallocated_links, resized_into, is_in_place, is_idle, resized}

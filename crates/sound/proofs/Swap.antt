@@ -17,9 +17,10 @@ use Rattle.slabs.specs.declared.node_entry.NodeEntry.{NodeEntry}
 use Rattle.slabs.specs.declared.node_entry.NodeEntry.TheVariants.{Free, Node}
 use Rattle.slabs.proofs.EntryLaws.{set_entry-length, word_above, entry_same, entry_other}
 use Rattle.edits.specs.Store.{Store, store_of}
-use Rattle.edits.specs.Answer.{is_done}
+use Rattle.edits.specs.Answer.{is_done, done}
 use Rattle.edits.specs.Swap.{swap_answer, arrived_slots, arrived_owners, arrived_counters, stays, swapped_slots, swapped_owners, swapped_counters, swapped}
-use Rattle.edits.specs.declared.answer.Answer.TheVariants.{Done, NoNode}
+use Rattle.edits.specs.declared.answer.Refusal.TheVariants.{NoNode}
+use Rattle.std.specs.Prelude.{Err}
 use Rattle.calls.specs.Call.{swap_call}
 use Rattle.sound.specs.Sound.{Shaped, LiveSlot, held_at, Owned, Sound}
 use Rattle.sound.proofs.RenameLaws.{same_port_then}
@@ -37,9 +38,9 @@ use Rattle.sound.proofs.Fits.{slab_inside, slabs_apart}
 -- A swap that is done is of two slots below the mark.
 pub swap_done : (mark a b : ℕ) → is_done (swap_answer mark a b) ≡ true → (a < mark) × (b < mark)
 unfolding swap_answer
-swap_done mark a b done =
-    let here = done_past (leb mark a) (NoNode a) _ refl done in
-    let there = done_past (leb mark b) (NoNode b) (Done 0 0 0) refl here.1 in
+swap_done mark a b passed =
+    let here = done_past (leb mark a) (Err (NoNode a)) _ refl passed in
+    let there = done_past (leb mark b) (Err (NoNode b)) (done 0 0 0) refl here.1 in
     (leb-false mark a here.0, leb-false mark b there.0)
 
 module _ (s : Store) (P : Parts s) (few : s.counters.nodemark ≤ 65536) where

@@ -1,6 +1,6 @@
 -- Link and unlink keep a store sound: they change link words of held ports alone, and count the wires.
 use Prim.Native.Nat.{ℕ, suc, ◌+◌, ◌-◌, ◌≤◌, ◌<◌}
-use mathlib.Core.Path.{◌≡◌, refl, sym, ◌∙◌}
+use mathlib.Core.Path.{◌≡◌, refl, sym, ap, ◌∙◌}
 use mathlib.Core.List.{List}
 use mathlib.Core.Bool.{Bool, true, false}
 use native.Mathlib.Numerals.{add-one}
@@ -11,19 +11,21 @@ use lib.Seq.{get_or-set_same, get_or-set_other, set-set, set-get_or}
 use lib.Dec.{eqb, ltb}
 use borrow.Author.Tests.{ltb-true, eqb-true, eqb-false}
 use Rattle.slabs.specs.Choice.{pick}
-use Rattle.slabs.specs.PortEntry.{Live, node_of, direction_of, port_entry}
+use Rattle.slabs.specs.PortEntry.{Live, direction_word, node_of, direction_of, facing, port_entry}
 use Rattle.slabs.specs.Links.{Wiring, Mate, pairs, cut_at, wired_at, link_at}
 use Rattle.slabs.specs.declared.counters.Counters.{Counters}
-use Rattle.slabs.specs.declared.port_entry.PortEntry.{PortEntry}
-use Rattle.slabs.specs.declared.port_entry.PortEntry.TheVariants.{Free, Port}
+use Rattle.slabs.specs.declared.port_entry.Direction.{Direction}
+use Rattle.slabs.specs.declared.port_entry.PortMeta.{PortMeta}
 use Rattle.slabs.proofs.Shapes.{cut_at_length}
-use Rattle.slabs.proofs.EntryLaws.{direction_le}
+use Rattle.slabs.proofs.EntryLaws.{direction_le, facing_word}
 use Rattle.slabs.proofs.SlabLaws.{slabs_kept}
 use Rattle.slabs.proofs.WireLaws.{pairs_cleared, cut_at_other, cut_at_wiring, cut_at_pairs}
 use Rattle.edits.specs.Store.{Store, port_at, on_port, on_link}
-use Rattle.edits.specs.Answer.{is_done}
+use Rattle.edits.specs.Answer.{is_done, done}
 use Rattle.edits.specs.Linking.{pair_answer, link_answer, joined, unlink_answer}
-use Rattle.edits.specs.declared.answer.Answer.TheVariants.{Done, NoPort, SameDirection, AlreadyLinked, NotLinked}
+use Rattle.edits.specs.declared.answer.Refusal.TheVariants.{NoPort, SameDirection, AlreadyLinked, NotLinked}
+use Rattle.std.specs.Prelude.{Option, Some, None, Err}
+use Rattle.std.proofs.lemmas.Option.{same_Some}
 use Rattle.calls.specs.Call.{rewired, link_call, unlink_call}
 use Rattle.sound.specs.Sound.{Shaped, Sound, held_in}
 use Rattle.sound.proofs.Parts.{Parts, parts_of, sound_of, unheld, slot_table, chain_of, parts_by}
@@ -53,17 +55,19 @@ rewired_sound s shaped sound links wires long still wiring count =
     P.owned)
 
 -- What a number says as a port below the mark, it is.
-pub port_live : (owners : List ℕ) (mark p node direction : ℕ) → port_at owners mark p ≡ Port node direction
-    → (p < mark) × Live owners p × (node ≡ node_of (get_or owners p 0)) × (direction ≡ direction_of (get_or owners p 0))
+pub port_live : (owners : List ℕ) (mark p : ℕ) (m : PortMeta) → port_at owners mark p ≡ Some m
+    → (p < mark) × Live owners p × (m.node ≡ node_of (get_or owners p 0)) × (direction_word m.direction ≡ direction_of (get_or owners p 0))
 unfolding port_at port_entry
-port_live owners mark p node direction e = go (ltb p mark) refl (eqb (get_or owners p 0) 0) refl e
+port_live owners mark p m e = go (ltb p mark) refl (eqb (get_or owners p 0) 0) refl e
   where
     go : (below : Bool) → ltb p mark ≡ below → (none : Bool) → eqb (get_or owners p 0) 0 ≡ none
-        → pick below (pick none Free (Port (node_of (get_or owners p 0)) (direction_of (get_or owners p 0)))) Free ≡ Port node direction
-        → (p < mark) × Live owners p × (node ≡ node_of (get_or owners p 0)) × (direction ≡ direction_of (get_or owners p 0))
-    go true l false w e = (ltb-true p mark l, eqb-false (get_or owners p 0) 0 w, cc, cc)
-    go true l true w e = let z : ◌≡◌ {A = ℕ} 0 1 = cc in absurd (omega arith)
-    go false l none w e = let z : ◌≡◌ {A = ℕ} 0 1 = cc in absurd (omega arith)
+        → pick below (pick none None (Some (record { node = node_of (get_or owners p 0); direction = facing (get_or owners p 0) }))) None ≡ Some m
+        → (p < mark) × Live owners p × (m.node ≡ node_of (get_or owners p 0)) × (direction_word m.direction ≡ direction_of (get_or owners p 0))
+    go true l false w e =
+        let is : m ≡ record { node = node_of (get_or owners p 0); direction = facing (get_or owners p 0) } = sym (same_Some _ _ e) in
+        (ltb-true p mark l, eqb-false (get_or owners p 0) 0 w, ap (λ (x : PortMeta). x.node) is, ap (λ (x : PortMeta). direction_word x.direction) is ∙ facing_word (get_or owners p 0))
+    go true l true w e = absurd (cc e)
+    go false l none w e = absurd (cc e)
 
 -- two live ports without a wire that face opposite ways
 pub record CanJoin (owners links : List ℕ) (mark a b : ℕ) : Type 0 where
@@ -80,21 +84,21 @@ pub link_done : (owners links : List ℕ) (mark a b : ℕ) → is_done (link_ans
 unfolding link_answer
 link_done owners links mark a b e = go (port_at owners mark a) refl (port_at owners mark b) refl e
   where
-    pair : (d f : ℕ) (same : Bool) → eqb d f ≡ same → (la : Bool) → eqb (get_or links a 0) 0 ≡ la → (lb : Bool) → eqb (get_or links b 0) 0 ≡ lb
-        → is_done (pick same (SameDirection a b d) (pick la (pick lb (Done a b 0) (AlreadyLinked b)) (AlreadyLinked a))) ≡ true
-        → (d ≡ f → ⊥) × (get_or links a 0 ≡ 0) × (get_or links b 0 ≡ 0)
-    pair d f false n true la true lb e = (eqb-false d f n, eqb-true (get_or links a 0) 0 la, eqb-true (get_or links b 0) 0 lb)
+    pair : (d f : Direction) (same : Bool) → eqb (direction_word d) (direction_word f) ≡ same → (la : Bool) → eqb (get_or links a 0) 0 ≡ la → (lb : Bool) → eqb (get_or links b 0) 0 ≡ lb
+        → is_done (pick same (Err (SameDirection a b d)) (pick la (pick lb (done a b 0) (Err (AlreadyLinked b))) (Err (AlreadyLinked a)))) ≡ true
+        → (direction_word d ≡ direction_word f → ⊥) × (get_or links a 0 ≡ 0) × (get_or links b 0 ≡ 0)
+    pair d f false n true la true lb e = (eqb-false (direction_word d) (direction_word f) n, eqb-true (get_or links a 0) 0 la, eqb-true (get_or links b 0) 0 lb)
     pair d f false n true la false lb e = absurd (false_true e)
     pair d f false n false la lb lb' e = absurd (false_true e)
     pair d f true n la la' lb lb' e = absurd (false_true e)
 
-    go : (here : PortEntry) → port_at owners mark a ≡ here → (there : PortEntry) → port_at owners mark b ≡ there
-        → is_done (on_port here (λ node direction. on_port there (λ other facing. pair_answer links a b direction facing) (NoPort a)) (NoPort a)) ≡ true
+    go : (here : Option PortMeta) → port_at owners mark a ≡ here → (there : Option PortMeta) → port_at owners mark b ≡ there
+        → is_done (on_port here (λ m. on_port there (λ n. pair_answer links a b m.direction n.direction) (Err (NoPort a))) (Err (NoPort a))) ≡ true
         → CanJoin owners links mark a b
-    go (Port n d) is (Port m f) is' e =
-        let (below, live, k, faces) = port_live owners mark a n d is in
-        let (below', live', k', faces') = port_live owners mark b m f is' in
-        let (across, loose, loose') = pair d f (eqb d f) refl (eqb (get_or links a 0) 0) refl (eqb (get_or links b 0) 0) refl e in
+    go (Some m) is (Some n) is' e =
+        let (below, live, k, faces) = port_live owners mark a m is in
+        let (below', live', k', faces') = port_live owners mark b n is' in
+        let (across, loose, loose') = pair m.direction n.direction (eqb (direction_word m.direction) (direction_word n.direction)) refl (eqb (get_or links a 0) 0) refl (eqb (get_or links b 0) 0) refl e in
         record {
           a_below = below;
           b_below = below';
@@ -104,8 +108,8 @@ link_done owners links mark a b e = go (port_at owners mark a) refl (port_at own
           a_loose = loose;
           b_loose = loose';
         }
-    go (Port n d) is Free is' e = absurd (false_true e)
-    go Free is there is' e = absurd (false_true e)
+    go (Some m) is None is' e = absurd (false_true e)
+    go None is there is' e = absurd (false_true e)
 
 -- A live port that gets a wire adds its direction to the count.
 pub pairs_set : (owners links : List ℕ) (p q m : ℕ) → p < m → m ≤ length links → Live owners p → get_or links p 0 ≡ 0
@@ -196,11 +200,11 @@ pub unlink_done : (owners links : List ℕ) (mark port : ℕ) → is_done (unlin
 unfolding unlink_answer
 unlink_done owners links mark port e = go (port_at owners mark port) refl e
   where
-    go : (here : PortEntry) → port_at owners mark port ≡ here
-        → is_done (on_port here (λ node direction. on_link (link_at links port) (λ partner. Done partner 0 0) (NotLinked port)) (NoPort port)) ≡ true
+    go : (here : Option PortMeta) → port_at owners mark port ≡ here
+        → is_done (on_port here (λ m. on_link (link_at links port) (λ partner. done partner 0 0) (Err (NotLinked port))) (Err (NoPort port))) ≡ true
         → (port < mark) × Live owners port
-    go (Port n d) is e = let (below, live, k, faces) = port_live owners mark port n d is in (below, live)
-    go Free is e = absurd (false_true e)
+    go (Some m) is e = let (below, live, k, faces) = port_live owners mark port m is in (below, live)
+    go None is e = absurd (false_true e)
 
 -- Unlink keeps a store sound.
 pub unlink_sound : (s : Store) → Shaped s → Sound s → (port : ℕ) → Sound (unlink_call s port).store

@@ -4,8 +4,9 @@ use mathlib.Core.Path.{◌≡◌, refl, sym, ◌∙◌, ap}
 use mathlib.Core.List.{List, [], ◌∷◌, ◌++◌, append_assoc, append-nil}
 use native.Mathlib.Omega.{arith}
 use native.Mathlib.Nat.{add-zero, zero-add}
-use lib.ListN.{length, drop, set}
-use lib.Seq.{sets, sets-eq, take_at, drop_at}
+use lib.ListN.{length, take, drop, set}
+use lib.Seq.{sets, sets-eq, take_at, drop_at, drop-drop}
+use borrow.Rule.Slice.PartMut.{put_mid}
 use Rattle.calls.specs.declared.Call.{Call}
 use Rattle.text.specs.Lines.{Small, AllSmall, call_line, call_text, call_words}
 use Rattle.text.specs.Parts.{Front}
@@ -49,6 +50,10 @@ pub sets_front : (l xs : List ℕ) → length xs ≤ length l → sets l 0 xs �
 sets_front l xs h =
     let k : 0 + length xs ≤ length l = omega arith in
     sets-eq xs l 0 k ∙ rw zero-add
+
+-- A part that is overwritten holds what is stored from its start on.
+pub sets_put : (l xs ys : List ℕ) (at room : ℕ) → room ≡ length xs → ys ≡ xs → at + length xs ≤ length l → put_mid at room l ys ≡ sets l at xs
+sets_put l xs ys at room e f h = rw (e, f, drop-drop (length xs) at l) (sym (sets-eq xs l at h ∙ append_assoc (take at l) xs (drop (at + length xs) l)))
 
 -- The words of some calls, stored at the front of an array that has room.
 pub front_made : (calls : List Call) (words words' : List ℕ) → length (call_words calls) ≤ length words → words' ≡ sets words 0 (call_words calls) → Front calls words words'

@@ -3,7 +3,7 @@ use Prim.Native.Nat.{ℕ, suc, ◌+◌, ◌≤◌, ◌<◌, ◌^◌}
 use mathlib.Core.Path.{◌≡◌, refl, sym, ◌∙◌, ap}
 use mathlib.Core.List.{List, [], ◌∷◌, ◌++◌, append_assoc}
 use native.Mathlib.Omega.{arith}
-use native.Mathlib.Numerals.{add-one}
+use native.Mathlib.Decide.{dec_lt}
 use lib.ListN.{length, get_or, drop, length-drop, length-append}
 use lib.Seq.{drop-cons}
 use Rattle.calls.specs.declared.Call.{Call}
@@ -12,32 +12,24 @@ use Rattle.text.specs.Lines.{Small, NoLine, call_line}
 use Rattle.text.specs.Parts.{Digit, NumberAt, FieldAt, NoField, LineAt}
 use Rattle.text.proofs.DecimalLaws.{numbers_same}
 
--- A number that is read and a byte behind it make a field.
-pub field_made : (s : List ℕ) (at end v next : ℕ) → NumberAt s at v next → next < length s → get_or s next 0 ≡ end → FieldAt s at end v (next + 1)
-field_made s at end v next m h e =
-    record {
-      small = m.small;
-      within = omega arith;
-      says = m.says ∙ rw (add-one, drop-cons s next 0 h, e);
-    }
-
 -- What a field's end leaves is behind the number that is read.
 pub behind_number : (s : List ℕ) (at end v next w : ℕ) (rest : List ℕ) → NumberAt s at v next → (Digit end → ⊥) → w < 2 ^ 32
     → drop at s ≡ decimal w ++ (end ∷ rest) → drop next s ≡ end ∷ rest
 behind_number s at end v next w rest m d h e =
     (numbers_same v w (drop next s) (end ∷ rest) m.small h m.whole d (sym m.says ∙ e)).1
 
--- The text ends behind the number: no field.
-pub no_end : (s : List ℕ) (at end v next : ℕ) → NumberAt s at v next → (Digit end → ⊥) → length s ≤ next → NoField (drop at s) end
-no_end s at end v next m d past w rest h e =
-    let k : length (drop next s) ≡ suc (length rest) = ap length (behind_number s at end v next w rest m d h e) in
-    omega (arith, length-drop next s)
+-- The text ends behind the number, or another byte stands there: no field.
+pub other_end : (s : List ℕ) (at end v next : ℕ) → NumberAt s at v next → (Digit end → ⊥) → (next < length s → get_or s next 0 ≡ end → ⊥) → NoField (drop at s) end
+other_end s at end v next m d f w rest k e = go (dec_lt next (length s))
+  where
+    behind : drop next s ≡ end ∷ rest
+    behind = behind_number s at end v next w rest m d k e
 
--- Another byte stands behind the number: no field.
-pub other_end : (s : List ℕ) (at end v next : ℕ) → NumberAt s at v next → (Digit end → ⊥) → next < length s → (get_or s next 0 ≡ end → ⊥) → NoField (drop at s) end
-other_end s at end v next m d h o w rest k e =
-    let f : get_or s next 0 ∷ drop (suc next) s ≡ end ∷ rest = sym (drop-cons s next 0 h) ∙ behind_number s at end v next w rest m d k e in
-    o (cc)
+    go : Dec (next < length s) → ⊥
+    go (yes h) =
+        let same : get_or s next 0 ∷ drop (suc next) s ≡ end ∷ rest = sym (drop-cons s next 0 h) ∙ behind in
+        f h (cc)
+    go (no h) = omega (arith, ap length behind, length-drop next s)
 
 -- what a line says behind its third field
 fourth : Call → List ℕ → List ℕ

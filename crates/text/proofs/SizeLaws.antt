@@ -1,10 +1,9 @@
 -- How long the lines of a run are: an answer line has at most 50 bytes, a record line at most 39, and each record is told once.
 use Prim.Native.Nat.{ℕ, suc, zero, ◌+◌, ◌*◌, ◌≤◌, ◌<◌}
-use mathlib.Core.Path.{◌≡◌}
+use mathlib.Core.Path.{◌≡◌, sym, ◌∙◌, ap}
 use mathlib.Core.List.{List, [], ◌∷◌, append-nil}
 use mathlib.Core.Bool.{Bool, true, false}
 use native.Mathlib.Omega.{arith}
-use native.Mathlib.Nat.{add_assoc}
 use native.Mathlib.Numerals.{add-one}
 use native.Mathlib.Decide.{ℕ_discrete, dec_lt}
 use lib.ListN.{length, get_or, length-append}
@@ -13,8 +12,9 @@ use borrow.Author.Tests.{eq-eqb, ne_eqb, lt-ltb, le-ltb}
 use Rattle.slabs.specs.Choice.{pick}
 use Rattle.text.specs.Decimal.{decimal, fields}
 use Rattle.text.specs.Lines.{answer_line, record_line, record_lines, run_lines, error_line}
+use Rattle.text.specs.Parts.{words_at}
 use Rattle.text.proofs.DecimalLaws.{digits-length, digits_short}
-use Rattle.text.proofs.OutputLaws.{line_length, fields-length, fields_none, answer_length, record_length}
+use Rattle.text.proofs.OutputLaws.{answer_put, run_more, line_length, fields-length, fields_none, answer_length, record_length}
 
 four_length : (a b c d : ℕ) → length (fields (a ∷ b ∷ c ∷ d ∷ [])) ≤ length (decimal a) + 34
 four_length a b c d =
@@ -80,10 +80,8 @@ records_size log place (suc r) h = go (ℕ_discrete (get_or log (4 * r + 0) 0) p
     go (no e) (no l) k =
         rw (lines_same log place r e, told_same log place r (omega arith), told_same log (suc place) r (omega arith)) (omega arith)
 
--- One call more: its answer line, and the lines of its records.
-pub run_more_length : (answers log : List ℕ) (records n : ℕ) → length (run_lines answers log records (n + 1)) ≡ length (run_lines answers log records n) + length (answer_line answers n) + length (record_lines log n records)
-unfolding run_lines
-run_more_length answers log records n = rw (add-one n) (simp (length-append, add_assoc))
+run_more_length : (answers log : List ℕ) (records n : ℕ) → length (run_lines answers log records (n + 1)) ≡ length (run_lines answers log records n) + length (answer_line answers n) + length (record_lines log n records)
+run_more_length answers log records n = rw run_more (simp length-append)
 
 run_size : (answers log : List ℕ) (records n : ℕ) → n ≤ 1000 → length (run_lines answers log records n) ≤ 50 * n + 39 * told log n records
 unfolding run_lines
@@ -95,6 +93,19 @@ run_size answers log records (suc n) h =
 -- The lines of 256 calls and 512 records fit the output.
 pub run_fits : (answers log : List ℕ) (records n : ℕ) → n ≤ 256 → records ≤ 512 → length (run_lines answers log records n) ≤ 32768
 run_fits answers log records n h k = omega (arith, run_size answers log records n (omega arith), told_within log n records)
+
+-- So the next answer has room, with a letter before it,
+pub answer_room : (answers log four : List ℕ) (records n place : ℕ) → four ≡ words_at answers place → place < n → n ≤ 256 → records ≤ 512
+    → length (run_lines answers log records place) + (length (fields (place ∷ get_or four 0 0 ∷ get_or four 1 0 ∷ get_or four 2 0 ∷ get_or four 3 0 ∷ [])) + 2) ≤ 32768
+answer_room answers log four records n place e h few k =
+    let line = sym (ap length (answer_put answers four place e)) ∙ line_length 65 (place ∷ get_or four 0 0 ∷ get_or four 1 0 ∷ get_or four 2 0 ∷ get_or four 3 0 ∷ []) in
+    omega (arith, line, run_more_length answers log records place, run_fits answers log records (place + 1) (omega arith) k)
+
+-- and so have its records behind it.
+pub records_fit : (answers log : List ℕ) (records n place : ℕ) → place < n → n ≤ 256 → records ≤ 512
+    → length (run_lines answers log records place) + length (answer_line answers place) + length (record_lines log place records) ≤ 32768
+records_fit answers log records n place h few k =
+    omega (arith, run_more_length answers log records place, run_fits answers log records (place + 1) (omega arith) k)
 
 -- And so does the line of an error.
 pub error_fits : (line : ℕ) → length (error_line line) ≤ 32768

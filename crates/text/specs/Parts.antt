@@ -1,15 +1,9 @@
 -- What the parts of the desk's reader and writer promise.
-use Rattle.std.specs.Prelude.{ℕ, ◌+◌, ◌*◌, ◌≤◌, ◌<◌, ◌^◌, ◌≡◌, List, [], ◌∷◌, ◌++◌, length, get_or, take, drop}
-use Rattle.std.proofs.lemmas.List.Edits.{sets}
+use Rattle.std.specs.Prelude.{ℕ, ◌+◌, ◌*◌, ◌≤◌, ◌<◌, ◌^◌, ◌≡◌, List, [], ◌∷◌, ◌++◌, length, get_or, take, drop, Option, Some, None, Result, Ok, Err}
 use Rattle.text.specs.Decimal.{decimal}
 use Rattle.calls.specs.declared.Call.{Call}
 use Rattle.text.specs.Lines.{Small, NoLine, Good, BadAt, call_line, call_words}
-use Rattle.text.specs.declared.numbers.Parsed.{Parsed}
-use Rattle.text.specs.declared.numbers.Parsed.TheVariants.{Number, Bad as BadNumber}
-use Rattle.text.specs.declared.input.Line.{Line}
-use Rattle.text.specs.declared.input.Line.TheVariants.{Good as GoodLine, Bad as BadLine}
-use Rattle.text.specs.declared.input.Input.{Input}
-use Rattle.text.specs.declared.input.Input.TheVariants.{Calls, BadLine as FirstBad}
+use Rattle.text.specs.declared.input.BadLine.{BadLine}
 
 -- a byte is a digit
 abbrev pub Digit : ℕ → Type 0
@@ -32,13 +26,6 @@ pub record DigitsAt (s : List ℕ) (at n : ℕ) : Type 0 where
   pub all : AllDigits (take n (drop at s))
   pub whole : n < 11 → NoDigit (drop (at + n) s)
 
--- a run of 1 to 10 digits with no needless zero in front
-pub record Numeral (run : List ℕ) : Type 0 where
-  pub some : 1 ≤ length run
-  pub few : length run ≤ 10
-  pub all : AllDigits run
-  pub lead : 1 < length run → get_or run 0 0 ≡ 48 → ⊥
-
 -- A number stands from a place up to the next, and no digit follows it.
 pub record NumberAt (s : List ℕ) (at v next : ℕ) : Type 0 where
   pub small : v < 2 ^ 32
@@ -51,9 +38,9 @@ abbrev pub NoNumber : List ℕ → Type 0
 NoNumber text = (v : ℕ) (rest : List ℕ) → v < 2 ^ 32 → NoDigit rest → text ≡ decimal v ++ rest → ⊥
 
 -- what is read at a place: the number there, or none where there is none
-abbrev pub NumberRead : List ℕ → ℕ → Parsed → Type 0
-NumberRead s at (Number v next) = NumberAt s at v next
-NumberRead s at BadNumber = NoNumber (drop at s)
+abbrev pub NumberRead : List ℕ → ℕ → Option (ℕ × ℕ) → Type 0
+NumberRead s at (Some (v, next)) = NumberAt s at v next
+NumberRead s at None = NoNumber (drop at s)
 
 -- A number stands at a place, and a byte ends it just before the next.
 pub record FieldAt (s : List ℕ) (at end v next : ℕ) : Type 0 where
@@ -66,9 +53,9 @@ abbrev pub NoField : List ℕ → ℕ → Type 0
 NoField text end = (v : ℕ) (rest : List ℕ) → v < 2 ^ 32 → text ≡ decimal v ++ (end ∷ rest) → ⊥
 
 -- what is read where a number and its end may stand
-abbrev pub FieldRead : List ℕ → ℕ → ℕ → Parsed → Type 0
-FieldRead s at end (Number v next) = FieldAt s at end v next
-FieldRead s at end BadNumber = NoField (drop at s) end
+abbrev pub FieldRead : List ℕ → ℕ → ℕ → Option (ℕ × ℕ) → Type 0
+FieldRead s at end (Some (v, next)) = FieldAt s at end v next
+FieldRead s at end None = NoField (drop at s) end
 
 -- A good line stands from a place up to the next.
 pub record LineAt (s : List ℕ) (at : ℕ) (call : Call) (next : ℕ) : Type 0 where
@@ -77,9 +64,9 @@ pub record LineAt (s : List ℕ) (at : ℕ) (call : Call) (next : ℕ) : Type 0 
   pub says : drop at s ≡ call_line call ++ drop next s
 
 -- what is read where a line may stand
-abbrev pub LineRead : List ℕ → ℕ → Line → Type 0
-LineRead s at (GoodLine call next) = LineAt s at call next
-LineRead s at BadLine = NoLine (drop at s)
+abbrev pub LineRead : List ℕ → ℕ → Option (Call × ℕ) → Type 0
+LineRead s at (Some (call, next)) = LineAt s at call next
+LineRead s at None = NoLine (drop at s)
 
 -- The words of some calls stand at the front of an array, and the words after them stay.
 pub record Front (calls : List Call) (words words' : List ℕ) : Type 0 where
@@ -99,20 +86,10 @@ pub record BadRead (s words words' : List ℕ) (line : ℕ) : Type 0 where
   pub kept : Front bad.before words words'
 
 -- what is read of a text, and what that leaves in the array of words
-abbrev pub TextRead : List ℕ → List ℕ → List ℕ → Input → Type 0
-TextRead s words words' (Calls n) = CallsRead s words words' n
-TextRead s words words' (FirstBad line) = BadRead s words words' line
+abbrev pub TextRead : List ℕ → List ℕ → List ℕ → Result ℕ BadLine → Type 0
+TextRead s words words' (Ok n) = CallsRead s words words' n
+TextRead s words words' (Err first) = BadRead s words words' first.line
 
 -- the four words of entry i
 abbrev pub words_at : List ℕ → ℕ → List ℕ
 words_at words i = get_or words (4 * i + 0) 0 ∷ get_or words (4 * i + 1) 0 ∷ get_or words (4 * i + 2) 0 ∷ get_or words (4 * i + 3) 0 ∷ []
-
--- Some bytes are stored from a place on, and what is handed back is the place behind them.
-pub record Put (bytes out : List ℕ) (at : ℕ) (out' : List ℕ) (next : ℕ) : Type 0 where
-  pub counted : next ≡ at + length bytes
-  pub wrote : out' ≡ sets out at bytes
-
--- Some bytes stand at the front of the output, so many, and the bytes after them stay.
-pub record Written (bytes out out' : List ℕ) (n : ℕ) : Type 0 where
-  pub counted : n ≡ length bytes
-  pub wrote : out' ≡ bytes ++ drop n out

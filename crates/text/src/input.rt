@@ -4,67 +4,39 @@ ghost use Rattle.std.proofs.lemmas.List.Edits.{sets};
 ghost use Rattle.text.specs.Parts.{Digit, FieldRead, LineRead, TextRead};
 
 use crate::numbers;
-use crate::numbers::Parsed;
 use calls::Call;
 
-const TAB: u8 = 9;
+const MOST_CALLS: u32 = 256;
 
-const NEWLINE: u8 = 10;
-
-// A line of a text: a call and the place after the line, or none.
-#[derive(Clone, Copy)]
-pub enum Line {
-    Good(Call, usize),
-    Bad,
-}
-
-// What a text says: so many calls, or its first bad line, counted from 1.
-#[derive(Clone, Copy)]
-pub enum Input {
-    Calls(u32),
-    BadLine(u32),
+// The first bad line of a text, counted from 1.
+#[derive(Clone, Copy, Debug, PartialEq, Eq)]
+pub struct BadLine {
+    pub line: u32,
 }
 
 // A number that this byte ends, and the place after the byte.
-fn read_field(s: &[u8], at: usize, end: u8) -> Parsed
+fn read_field(s: &[u8], at: usize, end: u8) -> Option<(u32, usize)>
     requires { (at ≤ length s.now) × (Digit end → ⊥) }
     ensures { FieldRead s.now at end result }
 {
-    let parsed = numbers::read_number(s, at);
-    let Parsed::Number(x, next) = parsed else {
-        return Parsed::Bad;
-    };
-    if s.len() <= next {
-        return Parsed::Bad;
+    let (x, next) = numbers::read_number(s, at)?;
+    if s.get(next) == Some(&end) {
+        Some((x, next + 1))
+    } else {
+        None
     }
-    if s[next] != end {
-        return Parsed::Bad;
-    }
-    Parsed::Number(x, next + 1)
 }
 
-// A line: four numbers, each with the byte that ends it.
-fn read_line(s: &[u8], at: usize) -> Line
+// A line, four numbers each with the byte that ends it, and the place after the line.
+fn read_line(s: &[u8], at: usize) -> Option<(Call, usize)>
     requires { at ≤ length s.now }
     ensures { LineRead s.now at result }
 {
-    let one = read_field(s, at, TAB);
-    let Parsed::Number(n, second) = one else {
-        return Line::Bad;
-    };
-    let two = read_field(s, second, TAB);
-    let Parsed::Number(a, third) = two else {
-        return Line::Bad;
-    };
-    let three = read_field(s, third, TAB);
-    let Parsed::Number(b, fourth) = three else {
-        return Line::Bad;
-    };
-    let four = read_field(s, fourth, NEWLINE);
-    let Parsed::Number(c, next) = four else {
-        return Line::Bad;
-    };
-    Line::Good(Call { n, a, b, c }, next)
+    let (n, second) = read_field(s, at, b'\t')?;
+    let (a, third) = read_field(s, second, b'\t')?;
+    let (b, fourth) = read_field(s, third, b'\t')?;
+    let (c, next) = read_field(s, fourth, b'\n')?;
+    Some((Call { n, a, b, c }, next))
 }
 
 // Writes call number i.
@@ -73,30 +45,24 @@ fn write_call(calls: &mut [u32; 1024], i: usize, call: Call)
     ensures { calls.new ≡ sets calls.old (4 * i) (call.n ∷ call.a ∷ call.b ∷ call.c ∷ []) }
 {
     let base = 4 * i;
-    calls[base] = call.n;
-    calls[base + 1] = call.a;
-    calls[base + 2] = call.b;
-    calls[base + 3] = call.c;
+    calls[base..base + 4].copy_from_slice(&[call.n, call.a, call.b, call.c]);
 }
 
-// Reads every line, 256 at the most.
-pub fn read_calls(s: &[u8], calls: &mut [u32; 1024]) -> Input
-    requires { length calls.old ≡ 1024 }
+// Reads every line, 256 at the most, and says how many.
+pub fn read_calls(s: &[u8], calls: &mut [u32; 1024]) -> Result<u32, BadLine>
     ensures { TextRead s.now calls.old calls.new result }
 {
-    let mut at: usize = 0;
-    let mut n: u32 = 0;
+    let mut at = 0;
+    let mut n = 0;
+    // A line ends where it is read to, so each step begins where the one before it stopped: no iterator says that plainer.
     while at < s.len() {
-        if n == 256 {
-            return Input::BadLine(257);
+        if n == MOST_CALLS {
+            return Err(BadLine { line: n + 1 });
         }
-        let line = read_line(s, at);
-        let Line::Good(call, next) = line else {
-            return Input::BadLine(n + 1);
-        };
+        let (call, next) = read_line(s, at).ok_or(BadLine { line: n + 1 })?;
         write_call(calls, n as usize, call);
         at = next;
         n += 1;
     }
-    Input::Calls(n)
+    Ok(n)
 }

@@ -1,71 +1,36 @@
 // Decimal numbers in a text.
-ghost use Rattle.std.specs.Prelude.{◌≡◌, ◌+◌, ◌≤◌, ◌<◌, ◌^◌, length, take, drop};
+ghost use Rattle.std.specs.Prelude.{ℕ, ◌≡◌, ◌≤◌, ◌<◌, ◌^◌, length, MatchOption};
 ghost use Rattle.text.specs.Decimal.{decimal};
-ghost use Rattle.text.specs.Parts.{DigitsAt, Numeral, NumberRead};
-
-// What stands at a place of a text: a number and the place after it, or none.
-#[derive(Clone, Copy)]
-pub enum Parsed {
-    Number(u32, usize),
-    Bad,
-}
+ghost use Rattle.text.specs.Parts.{AllDigits, DigitsAt, NumberRead};
 
 // How many digits stand from `at` on, counted up to 11: no number that is read has more than 10.
 fn count_digits(s: &[u8], at: usize) -> usize
     requires { at ≤ length s.now }
     ensures { DigitsAt s.now at result }
 {
-    let mut n: usize = 0;
-    while n < 11 {
-        if s.len() - at <= n {
-            return n;
-        }
-        let byte = s[at + n];
-        if byte < b'0' {
-            return n;
-        }
-        if b'9' < byte {
-            return n;
-        }
-        n += 1;
-    }
-    n
+    s[at..]
+        .iter()
+        .take(11)
+        .take_while(|byte| byte.is_ascii_digit())
+        .count()
 }
 
-// The value of n digits from `at` on.
-fn value(s: &[u8], at: usize, n: usize) -> u64
-    requires { (at + n ≤ length s.now) × Numeral (take n (drop at s.now)) }
-    ensures { (result < 10 ^ 10) × (decimal result ≡ take n (drop at s.now)) }
+// The number that a run of digits says: no needless zero in front, at most 4,294,967,295.
+fn value(run: &[u8]) -> Option<u32>
+    requires { AllDigits run.now }
+    ensures { MatchOption result ((v : ℕ) → v < 2 ^ 32 → decimal v ≡ run.now → ⊥) (λ v. decimal v ≡ run.now) }
 {
-    let mut sum = (s[at] - b'0') as u64;
-    let mut i: usize = 1;
-    while i < n {
-        sum = sum * 10 + (s[at + i] - b'0') as u64;
-        i += 1;
+    match run {
+        [b'0', _, ..] => None,
+        _ => str::from_utf8(run).ok()?.parse().ok(),
     }
-    sum
 }
 
-// Reads a number: no needless zero in front, at most 4,294,967,295.
-pub fn read_number(s: &[u8], at: usize) -> Parsed
+// Reads a number, and says where it ends.
+pub fn read_number(s: &[u8], at: usize) -> Option<(u32, usize)>
     requires { at ≤ length s.now }
     ensures { NumberRead s.now at result }
 {
-    let n = count_digits(s, at);
-    if n == 0 {
-        return Parsed::Bad;
-    }
-    if 10 < n {
-        return Parsed::Bad;
-    }
-    if 1 < n {
-        if s[at] == b'0' {
-            return Parsed::Bad;
-        }
-    }
-    let sum = value(s, at, n);
-    if 0xffff_ffff < sum {
-        return Parsed::Bad;
-    }
-    Parsed::Number(sum as u32, at + n)
+    let next = at + count_digits(s, at);
+    Some((value(&s[at..next])?, next))
 }

@@ -1,115 +1,72 @@
 // Lines of answers and records.
-ghost use Rattle.std.specs.Prelude.{◌≡◌, ◌∷◌, [], ◌+◌, ◌*◌, ◌≤◌, ◌<◌, length};
+ghost use Rattle.std.specs.Prelude.{◌≡◌, ◌∷◌, ◌++◌, ◌+◌, ◌*◌, ◌/◌, ◌≤◌, length};
+ghost use Rattle.arrayvec.specs.ArrayVec.{array_vec_len};
 ghost use Rattle.text.specs.Decimal.{decimal, fields};
-ghost use Rattle.text.specs.Lines.{answer_line, record_line, record_lines, run_lines, error_line};
-ghost use Rattle.text.specs.Parts.{words_at, Put, Written};
+ghost use Rattle.text.specs.Lines.{newline, record_lines, run_lines, error_line};
 
-const TAB: u8 = 9;
+use crate::Page;
+use arrayvec::ArrayVec;
+use itoa::Buffer;
 
-const NEWLINE: u8 = 10;
-
-// Writes one byte, and says where the next goes.
-fn put(out: &mut [u8; 32768], at: usize, byte: u8) -> usize
-    requires { at < 32768 }
-    ensures { Put (byte ∷ []) out.old at out.new result }
+// Writes a number.
+fn put_number(out: &mut Page, x: u32)
+    requires { array_vec_len out.old + length (decimal x) ≤ 32768 }
+    ensures { out.new.items ≡ out.old.items ++ decimal x }
 {
-    out[at] = byte;
-    at + 1
+    let mut digits = Buffer::new();
+    let _fits = out.try_extend_from_slice(digits.format(x).as_bytes());
 }
 
-// Writes a number: its last digit behind the others.
-fn put_number(out: &mut [u8; 32768], at: usize, x: u32) -> usize
-    requires { at + length (decimal x) ≤ 32768 }
-    ensures { Put (decimal x) out.old at out.new result }
+// Writes a line: a letter, and numbers, each behind a tab.
+fn put_line(out: &mut Page, letter: u8, words: &[u32])
+    requires { array_vec_len out.old + length (fields words.now) + 2 ≤ 32768 }
+    ensures { out.new.items ≡ out.old.items ++ ((letter ∷ fields words.now) ++ newline) }
 {
-    if x < 10 {
-        return put(out, at, x as u8 + b'0');
+    out.push(letter);
+    for word in words {
+        out.push(b'\t');
+        put_number(out, *word);
     }
-    let next = put_number(out, at, x / 10);
-    put(out, next, (x % 10) as u8 + b'0')
-}
-
-// Writes a tab and a number.
-fn put_field(out: &mut [u8; 32768], at: usize, x: u32) -> usize
-    requires { at + 1 + length (decimal x) ≤ 32768 }
-    ensures { Put (9 ∷ decimal x) out.old at out.new result }
-{
-    let next = put(out, at, TAB);
-    put_number(out, next, x)
+    out.push(b'\n');
 }
 
 // E and the number of the first bad line.
-pub fn put_error(out: &mut [u8; 32768], line: u32) -> usize
-    requires { length out.old ≡ 32768 }
-    ensures { Written (error_line line) out.old out.new result }
+pub fn put_error(line: u32) -> Page
+    ensures { result.items ≡ error_line line }
 {
-    let a = put(out, 0, b'E');
-    let b = put_field(out, a, line);
-    put(out, b, NEWLINE)
+    let mut out = ArrayVec::new();
+    put_line(&mut out, b'E', &[line]);
+    out
 }
 
-// The four words of entry i, each behind a tab.
-fn put_words(out: &mut [u8; 32768], at: usize, words: &[u32], i: u32) -> usize
-    requires { (at + length (fields (words_at words.now i)) ≤ 32768) × (4 * i + 4 ≤ length words.now) }
-    ensures { Put (fields (words_at words.now i)) out.old at out.new result }
+// The records of one call, those of its place: R, place, kind, old and new.
+fn put_records(out: &mut Page, log: &[u32], place: u32)
+    requires { array_vec_len out.old + length (record_lines log.now place (length log.now / 4)) ≤ 32768 }
+    ensures { out.new.items ≡ out.old.items ++ record_lines log.now place (length log.now / 4) }
 {
-    let base = 4 * i as usize;
-    let a = put_field(out, at, words[base]);
-    let b = put_field(out, a, words[base + 1]);
-    let c = put_field(out, b, words[base + 2]);
-    put_field(out, c, words[base + 3])
-}
-
-// A, place, code and three values.
-fn put_answer(out: &mut [u8; 32768], at: usize, answers: &[u32], place: u32) -> usize
-    requires { (at + length (answer_line answers.now place) ≤ 32768) × (4 * place + 4 ≤ length answers.now) }
-    ensures { Put (answer_line answers.now place) out.old at out.new result }
-{
-    let a = put(out, at, b'A');
-    let b = put_field(out, a, place);
-    let c = put_words(out, b, answers, place);
-    put(out, c, NEWLINE)
-}
-
-// R, place, kind, old and new.
-fn put_record(out: &mut [u8; 32768], at: usize, log: &[u32], r: u32) -> usize
-    requires { (at + length (record_line log.now r) ≤ 32768) × (4 * r + 4 ≤ length log.now) }
-    ensures { Put (record_line log.now r) out.old at out.new result }
-{
-    let a = put(out, at, b'R');
-    let b = put_words(out, a, log, r);
-    put(out, b, NEWLINE)
-}
-
-// The records of one call: those of its place.
-fn put_records(out: &mut [u8; 32768], from: usize, log: &[u32], place: u32, records: u32) -> usize
-    requires { (from + length (record_lines log.now place records) ≤ 32768) × (4 * records ≤ length log.now) }
-    ensures { Put (record_lines log.now place records) out.old from out.new result }
-{
-    let mut at = from;
-    let mut r: u32 = 0;
-    while r < records {
-        if log[4 * r as usize] == place {
-            at = put_record(out, at, log, r);
+    for record in log.chunks_exact(4) {
+        if record[0] == place {
+            put_line(out, b'R', record);
         }
-        r += 1;
     }
-    at
 }
 
-// Each call's answer, then its records. 256 answers and 512 records fit: 50 bytes and 39 bytes at the most.
-pub fn put_run(out: &mut [u8; 32768], answers: &[u32], log: &[u32], n: u32, records: u32) -> usize
-    requires out_len { length out.old ≡ 32768 }
+// Each call's answer, A, place, code and three values, then its records. 256 answers and 512 records fit: 50 bytes and 39 bytes
+// at the most.
+pub fn put_run(answers: &[u32], log: &[u32], n: u32, records: u32) -> Page
     requires n_bound { (n ≤ 256) × (4 * n ≤ length answers.now) }
     requires records_bound { (records ≤ 512) × (4 * records ≤ length log.now) }
-    ensures { Written (run_lines answers.now log.now records n) out.old out.new result }
+    ensures { result.items ≡ run_lines answers.now log.now records n }
 {
-    let mut at: usize = 0;
-    let mut i: u32 = 0;
-    while i < n {
-        let next = put_answer(out, at, answers, i);
-        at = put_records(out, next, log, i, records);
-        i += 1;
+    let written = &log[..4 * records as usize];
+    let mut out = ArrayVec::new();
+    for (place, answer) in (0..n).zip(answers.chunks_exact(4)) {
+        put_line(
+            &mut out,
+            b'A',
+            &[place, answer[0], answer[1], answer[2], answer[3]],
+        );
+        put_records(&mut out, written, place);
     }
-    at
+    out
 }

@@ -10,7 +10,7 @@ use lib.ListN.{length, get_or, get_or-eq_default}
 use lib.Seq.{ext_get_or}
 use Rattle.slabs.specs.Slab.{filled}
 use Rattle.slabs.proofs.Shapes.{filled-length}
-use Rattle.slabs.proofs.FillLaws.{filled_in}
+use Rattle.slabs.proofs.FillLaws.{filled_in, fill_whole}
 use Rattle.audit.specs.Parts.{BlankFrom}
 use Rattle.audit.proofs.audit.Goals as goal
 
@@ -35,11 +35,11 @@ filled_alike a b e =
 
 pub holds-sound-requires : goal.holds-sound-requires
 holds-sound-requires c =
-    (c.requires.0, search rules, rw c.fill.ensures (filled_blank c.args.scratch.now))
+    (c.requires.0, search rules, rw (c.fill.ensures.after (λ y e. e) ∙ fill_whole c.args.scratch.now 0) (filled_blank c.args.scratch.now))
 
 pub returns : goal.returns
 returns c =
     record {
       verdict = c.holds-sound.ensures;
-      scratch_after = c.fill-2.ensures ∙ filled_alike _ _ (search rules);
+      scratch_after = (c.fill-2.ensures.after (λ y e. e) ∙ fill_whole _ 0) ∙ filled_alike _ _ (search rules);
     }

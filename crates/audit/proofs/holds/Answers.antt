@@ -1,17 +1,22 @@
 -- `holds` decides whether a store is sound: each part of the audit decides one part of that.
 use Prim.Native.Nat.{ℕ, ◌≤◌}
 use mathlib.Core.List.{List}
+use mathlib.Core.Path.{sym, ◌∙◌}
 use native.Mathlib.Omega.{arith}
+use lib.ListN.{length}
+use Rattle.std.proofs.lemmas.Grind.{common_steps}
 use Rattle.slabs.specs.NodeEntry.{slot_word, node_entry}
 use Rattle.slabs.specs.declared.node_entry.NodeEntry.{NodeEntry}
 use Rattle.slabs.specs.declared.node_entry.NodeEntry.TheVariants.{Free, Node}
-use Rattle.edits.specs.Store.{store_of}
-use Rattle.sound.specs.Sound.{SlotSays}
-use Rattle.audit.specs.Parts.{SlotsHold}
-use Rattle.audit.proofs.DecideLaws.{decided_not, decides_from, failed, passed}
+use Rattle.edits.specs.Store.{Store, store_seen}
+use Rattle.sound.specs.Sound.{Sound, SlotSays}
+use Rattle.audit.specs.Decides.{Decides}
+use Rattle.audit.specs.Parts.{MarksHold, SlotsHold, FreeChainHolds, TiledHolds, PortsHold}
+use Rattle.audit.proofs.DecideLaws.{decides_from}
 use Rattle.audit.proofs.ChainSound.{walk_chain, chain_walk}
 use Rattle.audit.proofs.SoundParts.{sound_parts, parts_sound}
 use Rattle.audit.proofs.holds.Goals as goal
+use Rattle.audit.proofs.holds.Goals.{then-free_chain_holds, else-free_chain_holds}
 
 -- slots that hold for so many heads hold for more
 slots_wide : (slots : List ℕ) (few more mark : ℕ) → few ≤ more → SlotsHold slots few mark → SlotsHold slots more mark
@@ -22,50 +27,44 @@ slots_wide slots few more mark l h k b = go (node_entry slots k) (h k b)
         record { few_inlets = live.few_inlets; few_outlets = live.few_outlets; fit = live.fit; sized = omega (arith, live.sized); unplaced = live.unplaced }
     go (Free previous next) e = e
 
-pub returns-then-not-marks_hold : goal.returns-then-not-marks_hold
-returns-then-not-marks_hold c = decided_not (λ h. failed c.marks_hold.ensures c.if-not-marks_hold.true (sound_parts _ h).marks)
+-- what the parts of the audit decide
+record Found (s : Store) : Type 0 where
+  marks : MarksHold s.slots s.links s.owners s.counters
+  slots : SlotsHold s.slots (length s.heads) s.counters.nodemark
+  chain : FreeChainHolds s.slots s.counters
+  tiled : TiledHolds s.slots s.links s.owners s.heads s.counters
+  ports : PortsHold s.links s.owners s.counters
 
-pub slots_hold-requires : goal.slots_hold-requires
-slots_hold-requires c = (passed c.marks_hold.ensures c.if-not-marks_hold.false).nodes_inside
+found_sound : (s : Store) → Found s → Sound s
+found_sound s h =
+    parts_sound s
+    (record { marks = h.marks; slots = h.slots; free_chain = walk_chain s h.chain; nodes = h.chain.nodes; tiled = h.tiled; ports = h.ports })
 
-pub returns-then-not-slots_hold : goal.returns-then-not-slots_hold
-returns-then-not-slots_hold c = decided_not (λ h. failed c.slots_hold.ensures c.if-not-slots_hold.true h.slots)
+sound_found : (s : Store) → Sound s → Found s
+sound_found s h =
+    let parts = sound_parts s h in
+    record { marks = parts.marks; slots = parts.slots; chain = chain_walk s h.free_chain h.counted.nodes; tiled = parts.tiled; ports = parts.ports }
 
-pub free_chain_holds-requires : goal.free_chain_holds-requires
-free_chain_holds-requires c = (passed c.marks_hold.ensures c.if-not-marks_hold.false).nodes_inside
-
-pub returns-then-not-free_chain_holds : goal.returns-then-not-free_chain_holds
-returns-then-not-free_chain_holds c = decided_not (λ h. failed c.free_chain_holds.ensures c.if-not-free_chain_holds.true (chain_walk _ h.free_chain h.counted.nodes))
-
-pub tiled-requires : goal.tiled-requires
-tiled-requires c =
-    let z = c.requires in
-    let m = passed c.marks_hold.ensures c.if-not-marks_hold.false in
-    (record { links_reach = m.ports_inside; owners_reach = omega (arith, m.ports_inside); scratch_reach = omega (arith, m.ports_inside); small = omega (arith, m.ports_inside) }, m.nodes_inside, omega (arith, m.nodes_inside), z.0.few_heads, slots_wide _ _ _ _ z.0.few_heads (passed c.slots_hold.ensures c.if-not-slots_hold.false), z.2)
-
-pub returns-then-not-tiled : goal.returns-then-not-tiled
-returns-then-not-tiled c = decided_not (λ h. failed c.tiled.ensures c.if-not-tiled.true (sound_parts _ h).tiled)
-
-pub ports_hold-requires : goal.ports_hold-requires
-ports_hold-requires c =
-    let m = passed c.marks_hold.ensures c.if-not-marks_hold.false in
-    (m.ports_inside, omega (arith, m.ports_inside), omega (arith, m.ports_inside), m.owners_blank)
-
-pub returns : goal.returns
-returns c =
+pub returns-then-tiled : goal.returns-then-tiled
+returns-then-tiled c =
     let a = c.args in
-    let s = store_of a.slots.now a.links.now a.owners.now a.heads.now a.counters in
-    let walk = passed c.free_chain_holds.ensures c.if-not-free_chain_holds.false in
+    let s = store_seen a.view a.counters in
+    let tiled : TiledHolds s.slots s.links s.owners s.heads s.counters =
+    elim c.if-free_chain_holds.branch [
+      | then-free_chain_holds w ↦ w.tiled.ensures.so (sym w.value-is ∙ c.if-tiled.true)
+      | else-free_chain_holds w ↦ (cc)
+    ] in
+    let chain : FreeChainHolds s.slots s.counters = grind (arith, common_steps) in
+    let slots : SlotsHold s.slots (length s.heads) s.counters.nodemark = grind (arith, common_steps) in
+    let marks : MarksHold s.slots s.links s.owners s.counters = grind (arith, common_steps) in
     decides_from
     c.ports_hold.ensures
-    (λ ports.
-    parts_sound s
-    (record {
-      marks = passed c.marks_hold.ensures c.if-not-marks_hold.false;
-      slots = passed c.slots_hold.ensures c.if-not-slots_hold.false;
-      free_chain = walk_chain s walk;
-      nodes = walk.nodes;
-      tiled = passed c.tiled.ensures c.if-not-tiled.false;
-      ports = ports;
-    }))
-    (λ h. (sound_parts _ h).ports)
+    (λ ports. found_sound s (record { marks = marks; slots = slots; chain = chain; tiled = tiled; ports = ports }))
+    (λ h. (sound_found s h).ports)
+
+pub returns-else-tiled : goal.returns-else-tiled
+returns-else-tiled c =
+    let a = c.args in
+    let s = store_seen a.view a.counters in
+    let found : Decides c.if-free_chain_holds.value (Found s) = grind (arith, common_steps) in
+    decides_from found (found_sound s) (sound_found s)

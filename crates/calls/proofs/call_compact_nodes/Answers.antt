@@ -1,29 +1,38 @@
 -- Of a compaction of the nodes that is done there is room for a record of each node, and those are the live slots.
-use mathlib.Core.Path.{◌∙◌, sym, refl, ap}
-use Rattle.renumber.specs.Compact.{compact_answer, nodes_compacted, node_records}
+use mathlib.Core.Path.{refl, sym, ap, ◌∙◌}
+use Rattle.std.specs.Prelude.{Err}
+use Rattle.std.proofs.lemmas.Result.{err_from_is_err_and}
+use Rattle.edits.specs.Answer.{is_done}
+use Rattle.renumber.specs.Compact.{nodes_compacted}
 use Rattle.calls.specs.Call.{compact_nodes_call}
-use Rattle.calls.proofs.BecameLaws.{became_refused}
-use Rattle.calls.proofs.RoomLaws.{can_pack_nodes, nodes_recorded, became_logged}
+use Rattle.calls.proofs.BecameLaws.{left_refused, left_done, logged_refused, logged_done}
+use Rattle.calls.proofs.RoomLaws.{can_pack_nodes, nodes_recorded}
 use Rattle.calls.proofs.call_compact_nodes.Goals as goal
 
-pub returns-then-not-is_done : goal.returns-then-not-is_done
+pub returns-in_err-values-clause-call : goal.returns-in_err-values-clause-call
 unfolding compact_nodes_call
-returns-then-not-is_done c =
-    rw (← (c.compact_answer-answer.ensures ∙ ap (compact_answer c.args.counters.nodes) c.left.ensures))
-    (became_refused _ _ _ _ _ _ _ _ _ _ _ (sym c.is_done.ensures ∙ c.if-not-is_done.true) c.give.ensures)
+returns-in_err-values-clause-call c =
+    let p = err_from_is_err_and c.from_residual.result c.from_residual.ensures.1 in
+    left_refused _ _ _ _ (sym (rw c.left.ensures at c.compact_answer.ensures) ∙ c.in_err-values.was) (p.1 ∙ ap Err p.2)
 
-pub compact_nodes-after-requires : goal.compact_nodes-after-requires
-compact_nodes-after-requires c =
-    can_pack_nodes c.args.log.now c.args.to c.requires.0 c.requires.1 (rw (c.compact_answer-answer.ensures ∙ ap (compact_answer c.args.counters.nodes) c.left.ensures) at (sym c.is_done.ensures ∙ c.if-not-is_done.false))
+pub returns-in_err-values-clause-log : goal.returns-in_err-values-clause-log
+unfolding compact_nodes_call
+returns-in_err-values-clause-log c =
+    logged_refused _ _ _ _ _ _ _ (sym (rw c.left.ensures at c.compact_answer.ensures) ∙ c.in_err-values.was)
 
-pub returns : goal.returns
+pub compact_nodes-requires : goal.compact_nodes-requires
+compact_nodes-requires c =
+    can_pack_nodes c.args.log.now c.args.to c.requires.0 c.requires.1 (ap is_done (sym (rw c.left.ensures at c.compact_answer.ensures) ∙ c.in_ok-values.was))
+
+pub returns-clause-call : goal.returns-clause-call
 unfolding compact_nodes_call nodes_compacted
-returns c =
-    let a = c.args in
-    let done = c.compact_nodes-after.ensures in
-    rw (← (c.compact_answer-answer.ensures ∙ ap (compact_answer c.args.counters.nodes) c.left.ensures))
-    (became_logged _ _ _ (node_records a.slots.now a.counters.nodemark) a.counters.nodes _ _ _ a.links.now _ a.heads.now _ _ _ (sym c.is_done.ensures ∙ c.if-not-is_done.false)
-    (nodes_recorded c.requires.0)
-    (rw c.past.ensures at c.give-2.ensures)
+returns-clause-call c =
+    let done = c.compact_nodes.ensures in
+    left_done _ _ _ _ (sym (rw c.left.ensures at c.compact_answer.ensures) ∙ c.in_ok-values.was)
     (record { slots_after = done.slots_after; links_after = refl; owners_after = done.owners_after; heads_after = refl; counters_after = done.counters_after })
-    done.log_after)
+    (nodes_recorded c.requires.0)
+
+pub returns-clause-log : goal.returns-clause-log
+unfolding compact_nodes_call
+returns-clause-log c =
+    logged_done _ _ _ _ _ _ _ _ (sym (rw c.left.ensures at c.compact_answer.ensures) ∙ c.in_ok-values.was) c.compact_nodes.ensures.log_after

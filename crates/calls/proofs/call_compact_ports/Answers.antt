@@ -1,30 +1,35 @@
 -- Of a compaction of the ports that is done there is room for a record of each port, and those are the live ports.
-use mathlib.Core.Path.{◌∙◌, sym, ap}
-use Rattle.renumber.specs.Compact.{compact_answer, port_records}
+use mathlib.Core.Path.{sym, ap, ◌∙◌}
+use Rattle.std.specs.Prelude.{Err}
+use Rattle.std.proofs.lemmas.Result.{err_from_is_err_and}
+use Rattle.edits.specs.Answer.{is_done}
 use Rattle.calls.specs.Call.{compact_ports_call}
-use Rattle.calls.proofs.BecameLaws.{became_refused}
-use Rattle.calls.proofs.RoomLaws.{compact_room, ports_recorded, became_logged}
+use Rattle.calls.proofs.BecameLaws.{left_refused, left_done, logged_refused, logged_done}
+use Rattle.calls.proofs.RoomLaws.{compact_room, ports_recorded}
 use Rattle.calls.proofs.call_compact_ports.Goals as goal
 
-pub returns-then-not-is_done : goal.returns-then-not-is_done
+pub returns-in_err-values-clause-call : goal.returns-in_err-values-clause-call
 unfolding compact_ports_call
-returns-then-not-is_done c =
-    rw (← (c.compact_answer-answer.ensures ∙ ap (compact_answer c.args.counters.ports) c.left.ensures))
-    (became_refused _ _ _ _ _ _ _ _ _ _ _ (sym c.is_done.ensures ∙ c.if-not-is_done.true) c.give.ensures)
+returns-in_err-values-clause-call c =
+    let p = err_from_is_err_and c.from_residual.result c.from_residual.ensures.1 in
+    left_refused _ _ _ _ (sym (rw c.left.ensures at c.compact_answer.ensures) ∙ c.in_err-values.was) (p.1 ∙ ap Err p.2)
 
-pub compact_ports-after-requires : goal.compact_ports-after-requires
-compact_ports-after-requires c =
-    let a = c.args in
-    (c.requires.0, compact_room a.log.now a.to a.counters.ports c.requires.1 (rw (c.compact_answer-answer.ensures ∙ ap (compact_answer c.args.counters.ports) c.left.ensures) at (sym c.is_done.ensures ∙ c.if-not-is_done.false)))
-
-pub returns : goal.returns
+pub returns-in_err-values-clause-log : goal.returns-in_err-values-clause-log
 unfolding compact_ports_call
-returns c =
+returns-in_err-values-clause-log c =
+    logged_refused _ _ _ _ _ _ _ (sym (rw c.left.ensures at c.compact_answer.ensures) ∙ c.in_err-values.was)
+
+pub compact_ports-requires : goal.compact_ports-requires
+compact_ports-requires c =
     let a = c.args in
-    let done = c.compact_ports-after.ensures in
-    rw (← (c.compact_answer-answer.ensures ∙ ap (compact_answer c.args.counters.ports) c.left.ensures))
-    (became_logged _ _ _ (port_records a.owners.now a.counters.portmark) a.counters.ports _ _ _ _ _ _ _ _ _ (sym c.is_done.ensures ∙ c.if-not-is_done.false)
-    (ports_recorded c.requires.0)
-    (rw c.past.ensures at c.give-2.ensures)
-    done.store_after
-    done.log_after)
+    (c.requires.0, compact_room a.log.now a.to a.counters.ports c.requires.1 (ap is_done (sym (rw c.left.ensures at c.compact_answer.ensures) ∙ c.in_ok-values.was)))
+
+pub returns-clause-call : goal.returns-clause-call
+unfolding compact_ports_call
+returns-clause-call c =
+    left_done _ _ _ _ (sym (rw c.left.ensures at c.compact_answer.ensures) ∙ c.in_ok-values.was) c.compact_ports.ensures.words.store_after (ports_recorded c.requires.0)
+
+pub returns-clause-log : goal.returns-clause-log
+unfolding compact_ports_call
+returns-clause-log c =
+    logged_done _ _ _ _ _ _ _ _ (sym (rw c.left.ensures at c.compact_answer.ensures) ∙ c.in_ok-values.was) c.compact_ports.ensures.words.log_after

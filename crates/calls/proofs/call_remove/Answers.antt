@@ -1,32 +1,29 @@
--- `call_remove` goes by the entry that `node_at` reads, as `remove_answer` does: a free slot is refused, and a live one can be removed.
-use mathlib.Core.Path.{◌≡◌, refl, sym, ◌∙◌}
-use Rattle.slabs.specs.declared.node_entry.NodeEntry.TheVariants.{Node}
-use Rattle.edits.specs.Store.{store_of, node_at}
-use Rattle.edits.specs.Steps.{remove_answer, removed}
-use Rattle.edits.specs.declared.answer.Answer.TheVariants.{Done, NoNode}
-use Rattle.edits.proofs.StoreLaws.{node_below, node_entry_lem}
+-- A slot that holds no step is refused, and one that holds a step can be removed.
+use mathlib.Core.Path.{refl, sym, ap, ◌∙◌}
+use Rattle.std.specs.Prelude.{Err}
+use Rattle.std.proofs.lemmas.Result.{err_from_is_err_and}
+use Rattle.edits.specs.Steps.{remove_answer}
+use Rattle.edits.proofs.StoreLaws.{node_below, node_entry_lem, live_found, live_missed}
 use Rattle.calls.specs.Call.{remove_call}
-use Rattle.calls.proofs.BecameLaws.{became_refused, became_quiet}
+use Rattle.calls.proofs.BecameLaws.{left_refused, left_done}
 use Rattle.calls.proofs.call_remove.Goals as goal
 
-pub returns-in_default : goal.returns-in_default
+pub returns-in_err-meta-clause-call : goal.returns-in_err-meta-clause-call
 unfolding remove_call remove_answer
-returns-in_default c =
-    let a = c.args in
-    let s = store_of a.slots.now a.links.now a.owners.now a.heads.now a.counters in
-    rw (← c.node_at-entry.ensures, c.in_default.is)
-    (became_refused (NoNode a.call.a) a.slots.now a.links.now a.owners.now a.heads.now a.log.now a.counters s _ a.to c.give.result refl c.give.ensures)
+returns-in_err-meta-clause-call c =
+    let v = c.view-view.ensures in
+    let p = err_from_is_err_and c.from_residual.result c.from_residual.ensures.1 in
+    left_refused _ _ _ _ (sym (live_missed _ _ _ _ (sym (rw (c.live_node.ensures, v.slots) at c.ok_or.ensures.value) ∙ c.in_err-meta.was))) (p.1 ∙ ap Err p.2)
 
-pub remove-after-requires : goal.remove-after-requires
-remove-after-requires c =
-    let a = c.args in
-    let live : node_at a.slots.now a.counters.nodemark a.call.a ≡ Node c.in-Node.meta = sym c.node_at-entry.ensures ∙ c.in-Node.is in
-    (c.requires.0, node_below _ _ _ _ live, node_entry_lem _ _ _ _ live)
+pub remove-requires : goal.remove-requires
+remove-requires c =
+    let v = c.view-view.ensures in
+    let live = live_found _ _ _ (sym (rw (c.live_node.ensures, v.slots) at c.ok_or.ensures.value) ∙ c.in_ok-meta.was) in
+    (c.requires, node_below _ _ _ _ live, node_entry_lem _ _ _ _ live)
 
-pub returns : goal.returns
+pub returns-clause-call : goal.returns-clause-call
 unfolding remove_call remove_answer
-returns c =
-    let a = c.args in
-    let s = store_of a.slots.now a.links.now a.owners.now a.heads.now a.counters in
-    rw (← c.node_at-entry.ensures, c.in-Node.is)
-    (became_quiet (Done 0 0 0) s (removed s a.call.a c.in-Node.meta) a.log.now a.to _ _ _ _ c.remove-after.result c.give-2.result refl c.give-2.ensures c.remove-after.ensures)
+returns-clause-call c =
+    let v = c.view-view.ensures in
+    rw (live_found _ _ _ (sym (rw (c.live_node.ensures, v.slots) at c.ok_or.ensures.value) ∙ c.in_ok-meta.was))
+    (left_done _ _ _ _ refl c.remove.ensures.store refl)

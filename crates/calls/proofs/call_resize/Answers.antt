@@ -1,25 +1,34 @@
 -- A resize that is refused, or of a step that has the counts already, leaves every lent word, and any other is the change of a live step.
 use Prim.Native.Nat.{ℕ}
-use mathlib.Core.Path.{◌≡◌, refl, sym, ◌∙◌}
-use mathlib.Core.Bool.{Bool, true, false}
+use mathlib.Core.Path.{◌≡◌, refl, sym, ap, ◌∙◌}
+use mathlib.Core.Bool.{Bool, true, false, false≢true}
 use mathlib.Core.List.{List, []}
 use lib.ListN.{length}
-use borrow.Author.Tests.{le-ltb}
+use borrow.Author.Tests.{le-ltb, lt-ltb}
+use Rattle.std.specs.Prelude.{Result, Ok, Err, Some, None, is_ok}
+use Rattle.std.specs.Option.{ok_or}
+use Rattle.std.proofs.lemmas.Result.{err_from_is_err_and}
 use Rattle.slabs.specs.Choice.{pick}
+use Rattle.slabs.specs.declared.counters.Counters.{Counters}
 use Rattle.slabs.specs.declared.node_entry.NodeEntry.{NodeEntry}
 use Rattle.slabs.specs.declared.node_entry.NodeEntry.TheVariants.{Free, Node}
 use Rattle.slabs.specs.declared.node_entry.NodeMeta.{NodeMeta}
-use Rattle.edits.specs.Store.{Store, store_of, node_at, on_node}
-use Rattle.edits.specs.Answer.{is_done}
-use Rattle.edits.specs.declared.answer.Answer.{Answer}
-use Rattle.renumber.specs.Resize.{resize_answer, is_idle, resized, resize_records}
+use Rattle.edits.specs.Store.{Store, store_in, node_at, on_node}
+use Rattle.edits.specs.Fit.{StoreIs}
+use Rattle.edits.specs.Answer.{Answer, is_done, done}
+use Rattle.edits.specs.declared.answer.Refusal.{Refusal}
+use Rattle.edits.proofs.StoreLaws.{live_found}
+use Rattle.renumber.specs.Records.{logged}
+use Rattle.renumber.specs.Resize.{resize_answer, change_answer, is_idle, resized, resize_records}
+use Rattle.renumber.specs.Room.{LogFits, CanChange}
 use Rattle.renumber.specs.declared.log.LogPlace.{LogPlace}
 use Rattle.renumber.specs.declared.resize.Change.{Change}
-use Rattle.renumber.proofs.AnswerLaws.{node_at_live, resize_done, Resizes}
+use Rattle.renumber.proofs.AnswerLaws.{node_at_live, resize_done, Resizes, change_done, change_says}
 use Rattle.renumber.proofs.PackLaws.{fits_wider}
-use Rattle.calls.specs.Call.{After, decided, change_call, resize_call, CanDecide, remaining, Became, Given}
-use Rattle.calls.specs.declared.Outcome.{Outcome}
-use Rattle.calls.proofs.BecameLaws.{became_same, became_refused}
+use Rattle.renumber.proofs.ResizeLaws.{resize_records-length}
+use Rattle.calls.specs.Call.{After, decided, change_call, resize_call, remaining, Left}
+use Rattle.calls.specs.declared.Done.{Done}
+use Rattle.calls.proofs.BecameLaws.{left_refused, left_done, logged_refused, logged_done, logged_quiet}
 use Rattle.calls.proofs.call_resize.Goals as goal
 
 -- the change of the step with this slot
@@ -28,107 +37,157 @@ change_of node inlets outlets m = record { node = node; meta = m; inlets = inlet
 
 module _ (s : Store) (log : List ℕ) (to : LogPlace) (node inlets outlets : ℕ) (answer : Answer)
     (says : answer ≡ resize_answer s.slots (length s.links) s.heads s.counters (remaining log to) node inlets outlets) where
+  -- what is known where the answer is done
+  resizes : {values : ℕ × ℕ × ℕ} → answer ≡ Ok values → Resizes s.slots (length s.links) s.heads s.counters (remaining log to) node inlets outlets
+  resizes e = resize_done _ _ _ _ _ _ _ _ (ap is_done (sym says ∙ e))
+
   -- the call by what the slot says
   by_entry : (entry : NodeEntry) → node_at s.slots s.counters.nodemark node ≡ entry
       → resize_call s (remaining log to) node inlets outlets ≡ on_node entry (λ m. change_call s (change_of node inlets outlets m) answer) (decided answer s s [])
   unfolding resize_call
   by_entry entry e = rw (e, says)
 
-  -- a done resize is the change of a live step, which may have these counts
-  can_decide : (m : NodeMeta) → is_done answer ≡ true → node_at s.slots s.counters.nodemark node ≡ Node m
-      → is_idle (change_of node inlets outlets m) ≡ false → CanDecide s log to (change_of node inlets outlets m) answer
-  unfolding resize_answer
-  can_decide m d e changes =
-      let z : Resizes s.slots (length s.links) s.heads s.counters (remaining log to) node inlets outlets = resize_done _ _ _ _ _ _ _ _ (rw says at d) in
-      record {
-        below = (node_at_live _ _ _ _ e).0;
-        is = (node_at_live _ _ _ _ e).1;
-        few_inlets = z.few_inlets;
-        few_outlets = z.few_outlets;
-        changes = changes;
-        says = says ∙ simp (le-ltb _ _ z.few_inlets, le-ltb _ _ z.few_outlets) (rw e);
-      }
-
-  -- so it leaves what its change leaves
-  resize_changed : (m : NodeMeta) (slots links owners heads log' : List ℕ) (r : Outcome) → node_at s.slots s.counters.nodemark node ≡ Node m
-      → Became (change_call s (change_of node inlets outlets m) answer) log to slots links owners heads log' r
-      → Became (resize_call s (remaining log to) node inlets outlets) log to slots links owners heads log' r
-  resize_changed m slots links owners heads log' r e became = rw (by_entry (Node m) e) became
-
-  module _ (r : Outcome) (g : Given r answer s.counters to) where
-    -- the same store both ways
-    became_idle : Became (decided answer s s []) log to s.slots s.links s.owners s.heads log r
-    unfolding decided
-    became_idle = go (is_done answer)
-      where
-        same : After
-        same = record { answer = answer; store = s; records = [] }
-
-        go : (t : Bool) → Became (pick t same same) log to s.slots s.links s.owners s.heads log r
-        go true = became_same answer _ _ _ _ log _ to r g
-        go false = became_same answer _ _ _ _ log _ to r g
-
-    -- a refused resize
-    resize_refused : is_done answer ≡ false → Became (resize_call s (remaining log to) node inlets outlets) log to s.slots s.links s.owners s.heads log r
+  -- a refused resize is refused whatever the slot says
+  module _ (refusal : Refusal) (e : answer ≡ Err refusal) (r : Result Done Refusal) (z : r ≡ Err refusal) where
+    refused : Left (resize_call s (remaining log to) node inlets outlets) s.counters s.slots s.links s.owners s.heads r
     unfolding change_call
-    resize_refused d = rw (by_entry (node_at s.slots s.counters.nodemark node) refl) (at_entry (node_at s.slots s.counters.nodemark node))
+    refused = rw (by_entry (node_at s.slots s.counters.nodemark node) refl) (at_entry (node_at s.slots s.counters.nodemark node))
       where
         at_change : (t : Bool) (ch : Change)
-            → Became (pick t (decided answer s s []) (decided answer s (resized s ch) (resize_records s ch))) log to s.slots s.links s.owners s.heads log r
-        at_change true ch = became_idle
-        at_change false ch = became_refused answer _ _ _ _ log _ _ _ to r d g
+            → Left (pick t (decided answer s s []) (decided answer s (resized s ch) (resize_records s ch))) s.counters s.slots s.links s.owners s.heads r
+        at_change true ch = left_refused answer s s [] e z
+        at_change false ch = left_refused answer s (resized s ch) (resize_records s ch) e z
 
         at_entry : (entry : NodeEntry)
-            → Became (on_node entry (λ m. change_call s (change_of node inlets outlets m) answer) (decided answer s s [])) log to s.slots s.links s.owners s.heads log r
-        at_entry (Free previous next) = became_idle
+            → Left (on_node entry (λ m. change_call s (change_of node inlets outlets m) answer) (decided answer s s [])) s.counters s.slots s.links s.owners s.heads r
+        at_entry (Free previous next) = left_refused answer s s [] e z
         at_entry (Node m) = at_change (is_idle (change_of node inlets outlets m)) (change_of node inlets outlets m)
 
-    -- a resize of a slot that is not live
-    resize_free : (previous next : ℕ) → node_at s.slots s.counters.nodemark node ≡ Free previous next
-        → Became (resize_call s (remaining log to) node inlets outlets) log to s.slots s.links s.owners s.heads log r
-    resize_free previous next e = rw (by_entry (Free previous next) e) became_idle
-
-    -- a resize that changes nothing
-    resize_idle : (m : NodeMeta) → node_at s.slots s.counters.nodemark node ≡ Node m → is_idle (change_of node inlets outlets m) ≡ true
-        → Became (resize_call s (remaining log to) node inlets outlets) log to s.slots s.links s.owners s.heads log r
+    log_kept : log ≡ logged log to.at to.place (resize_call s (remaining log to) node inlets outlets).records
     unfolding change_call
-    resize_idle m e idle = rw (by_entry (Node m) e, idle) became_idle
+    log_kept = rw (by_entry (node_at s.slots s.counters.nodemark node) refl) (at_entry (node_at s.slots s.counters.nodemark node))
+      where
+        at_change : (t : Bool) (ch : Change)
+            → log ≡ logged log to.at to.place (pick {A = After} t (decided answer s s []) (decided answer s (resized s ch) (resize_records s ch))).records
+        at_change true ch = logged_refused answer s s [] log to.at to.place e
+        at_change false ch = logged_refused answer s (resized s ch) (resize_records s ch) log to.at to.place e
 
-pub resize_answer-answer-requires : goal.resize_answer-answer-requires
-resize_answer-answer-requires c =
+        at_entry : (entry : NodeEntry)
+            → log ≡ logged log to.at to.place (on_node {A = After} entry (λ m. change_call s (change_of node inlets outlets m) answer) (decided answer s s [])).records
+        at_entry (Free previous next) = logged_refused answer s s [] log to.at to.place e
+        at_entry (Node m) = at_change (is_idle (change_of node inlets outlets m)) (change_of node inlets outlets m)
+
+  -- a done one is of a live step,
+  is_live : {values : ℕ × ℕ × ℕ} (f e : Refusal) → answer ≡ Ok values → ok_or (on_node (node_at s.slots s.counters.nodemark node) Some None) f ≡ Err e → ⊥
+  unfolding node_at
+  is_live f e d h =
+      let z = resizes d in
+      false≢true (sym (ap is_ok (simp (lt-ltb node s.counters.nodemark z.below, z.is) at h)))
+
+  module _ (m : NodeMeta) (live : node_at s.slots s.counters.nodemark node ≡ Node m) where
+    -- and leaves all as it is where the step has the counts already,
+    idle_left : {values : ℕ × ℕ × ℕ} → answer ≡ Ok values → is_idle (change_of node inlets outlets m) ≡ true
+        → Left (resize_call s (remaining log to) node inlets outlets) s.counters s.slots s.links s.owners s.heads (Ok (record { values = values; counters = s.counters; records = 0 }))
+    unfolding change_call
+    idle_left e idle =
+        rw (by_entry (Node m) live, idle) (left_done answer s s [] e (record { slots_after = refl; links_after = refl; owners_after = refl; heads_after = refl; counters_after = refl }) refl)
+
+    idle_log : is_idle (change_of node inlets outlets m) ≡ true → log ≡ logged log to.at to.place (resize_call s (remaining log to) node inlets outlets).records
+    unfolding change_call
+    idle_log idle = rw (by_entry (Node m) live, idle) (logged_quiet answer s s log to.at to.place)
+
+    -- and else what the change leaves.
+    module _ (changes : is_idle (change_of node inlets outlets m) ≡ false) where
+      says_change : {values : ℕ × ℕ × ℕ} → answer ≡ Ok values
+          → answer ≡ change_answer (length s.links) s.heads s.counters.portmark (remaining log to) (change_of node inlets outlets m)
+      unfolding resize_answer
+      says_change e = let z = resizes e in says ∙ simp (le-ltb _ _ z.few_inlets, le-ltb _ _ z.few_outlets) (rw live)
+
+      can_change : {values : ℕ × ℕ × ℕ} → LogFits log to → answer ≡ Ok values → CanChange s log to (change_of node inlets outlets m)
+      can_change fits e =
+          let z = resizes e in
+          change_done s log to (change_of node inlets outlets m) fits (node_at_live _ _ _ _ live).0 (node_at_live _ _ _ _ live).1 z.few_inlets z.few_outlets changes
+          (ap is_done (sym (says_change e) ∙ e))
+
+      records_said : {values : ℕ × ℕ × ℕ} → answer ≡ Ok values → values.0 ≡ length (resize_records s (change_of node inlets outlets m))
+      records_said e =
+          first (sym e ∙ says_change e ∙ change_says _ _ _ _ (change_of node inlets outlets m) changes (ap is_done (sym (says_change e) ∙ e))) ∙ sym (resize_records-length s (change_of node inlets outlets m))
+        where
+          first : {values : ℕ × ℕ × ℕ} {n : ℕ} → ◌≡◌ {A = Answer} (Ok values) (done n 0 0) → values.0 ≡ n
+          first h = cc h
+
+      changed_left : {values : ℕ × ℕ × ℕ} {slots links owners heads : List ℕ} {after : Counters} → answer ≡ Ok values
+          → StoreIs (resized s (change_of node inlets outlets m)) slots links owners heads after
+          → Left (resize_call s (remaining log to) node inlets outlets) s.counters slots links owners heads (Ok (record { values = values; counters = after; records = values.0 }))
+      unfolding change_call
+      changed_left e made = rw (by_entry (Node m) live, changes) (left_done answer s _ _ e made (records_said e))
+
+      changed_log : {values : ℕ × ℕ × ℕ} {log' : List ℕ} → answer ≡ Ok values → log' ≡ logged log to.at to.place (resize_records s (change_of node inlets outlets m))
+          → log' ≡ logged log to.at to.place (resize_call s (remaining log to) node inlets outlets).records
+      unfolding change_call
+      changed_log {log' = log'} e l = rw (by_entry (Node m) live, changes) (logged_done answer s (resized s (change_of node inlets outlets m)) _ log log' to.at to.place e l)
+
+pub resize_answer-requires : goal.resize_answer-requires
+resize_answer-requires c =
+    let v = c.view-view.ensures in
     let fit = c.requires.0 in
-    (fit.node_room, fits_wider _ _ _ _ _ _ fit.few_heads fit.few_ports fit.live)
+    rw v.slots (fit.node_room, fits_wider _ _ _ _ _ _ fit.few_heads fit.few_ports fit.live)
 
-pub returns-then-not-is_done : goal.returns-then-not-is_done
-returns-then-not-is_done c =
-    resize_refused _ _ _ _ _ _ _ (rw c.left-room.ensures at c.resize_answer-answer.ensures) _ c.give.ensures
-    (sym c.is_done.ensures ∙ c.if-not-is_done.true)
+pub returns-in_err-values-clause-call : goal.returns-in_err-values-clause-call
+returns-in_err-values-clause-call c =
+    let v = c.view-view.ensures in
+    let p = err_from_is_err_and c.from_residual.result c.from_residual.ensures.1 in
+    refused (store_in c.args.tables.now c.args.counters) c.args.log.now c.args.to _ _ _ _ (rw (v.slots, v.links, v.heads, c.left-room.ensures) at c.resize_answer.ensures) _ c.in_err-values.was _ (p.1 ∙ ap Err p.2)
 
-pub returns-in_default : goal.returns-in_default
-returns-in_default c =
-    resize_free _ _ _ _ _ _ _ (rw c.left-room.ensures at c.resize_answer-answer.ensures) _ c.give-in_default.ensures _ _
-    (sym c.node_at-entry.ensures ∙ c.in_default.is)
+pub returns-in_err-values-clause-log : goal.returns-in_err-values-clause-log
+returns-in_err-values-clause-log c =
+    let v = c.view-view.ensures in
+    log_kept (store_in c.args.tables.now c.args.counters) c.args.log.now c.args.to _ _ _ _ (rw (v.slots, v.links, v.heads, c.left-room.ensures) at c.resize_answer.ensures) _ c.in_err-values.was (Err c.in_err-values.field-0.0) refl
 
-pub returns-then-is_idle : goal.returns-then-is_idle
-returns-then-is_idle c =
-    resize_idle _ _ _ _ _ _ _ (rw c.left-room.ensures at c.resize_answer-answer.ensures) _ c.give-then-is_idle.ensures _
-    (sym c.node_at-entry.ensures ∙ c.in-Node.is)
+pub returns-in_err-meta-clause-call : goal.returns-in_err-meta-clause-call
+returns-in_err-meta-clause-call c =
+    let v = c.view-view.ensures in
+    absurd (is_live (store_in c.args.tables.now c.args.counters) c.args.log.now c.args.to _ _ _ _ (rw (v.slots, v.links, v.heads, c.left-room.ensures) at c.resize_answer.ensures) _ _ c.in_ok-values.was (sym (rw (c.live_node.ensures, v.slots) at c.ok_or.ensures.value) ∙ c.in_err-meta.was))
+
+pub returns-in_err-meta-clause-log : goal.returns-in_err-meta-clause-log
+returns-in_err-meta-clause-log c =
+    let v = c.view-view.ensures in
+    absurd (is_live (store_in c.args.tables.now c.args.counters) c.args.log.now c.args.to _ _ _ _ (rw (v.slots, v.links, v.heads, c.left-room.ensures) at c.resize_answer.ensures) _ _ c.in_ok-values.was (sym (rw (c.live_node.ensures, v.slots) at c.ok_or.ensures.value) ∙ c.in_err-meta.was))
+
+pub returns-then-is_idle-clause-call : goal.returns-then-is_idle-clause-call
+returns-then-is_idle-clause-call c =
+    let v = c.view-view.ensures in
+    idle_left (store_in c.args.tables.now c.args.counters) c.args.log.now c.args.to _ _ _ _ (rw (v.slots, v.links, v.heads, c.left-room.ensures) at c.resize_answer.ensures) _
+    (live_found _ _ _ (sym (rw (c.live_node.ensures, v.slots) at c.ok_or.ensures.value) ∙ c.in_ok-meta.was))
+    c.in_ok-values.was
     (sym c.is_idle.ensures ∙ c.if-is_idle.true)
 
-pub call_change-requires : goal.call_change-requires
-call_change-requires c =
-    let pre = c.requires in
-    let a = c.args in (
-      pre.0,
-      pre.1,
-      can_decide (store_of a.slots.now a.links.now a.owners.now a.heads.now a.counters) _ _ _ _ _ _ (rw c.left-room.ensures at c.resize_answer-answer.ensures) _
-          (sym c.is_done.ensures ∙ c.if-not-is_done.false)
-          (sym c.node_at-entry.ensures ∙ c.in-Node.is)
-          (sym c.is_idle.ensures ∙ c.if-is_idle.false),
+pub returns-then-is_idle-clause-log : goal.returns-then-is_idle-clause-log
+returns-then-is_idle-clause-log c =
+    let v = c.view-view.ensures in
+    idle_log (store_in c.args.tables.now c.args.counters) c.args.log.now c.args.to _ _ _ _ (rw (v.slots, v.links, v.heads, c.left-room.ensures) at c.resize_answer.ensures) _
+    (live_found _ _ _ (sym (rw (c.live_node.ensures, v.slots) at c.ok_or.ensures.value) ∙ c.in_ok-meta.was))
+    (sym c.is_idle.ensures ∙ c.if-is_idle.true)
+
+pub resize-requires : goal.resize-requires
+resize-requires c =
+    let v = c.view-view.ensures in (
+      c.requires.0,
+      can_change (store_in c.args.tables.now c.args.counters) c.args.log.now c.args.to _ _ _ _ (rw (v.slots, v.links, v.heads, c.left-room.ensures) at c.resize_answer.ensures) _
+          (live_found _ _ _ (sym (rw (c.live_node.ensures, v.slots) at c.ok_or.ensures.value) ∙ c.in_ok-meta.was))
+          (sym c.is_idle.ensures ∙ c.if-is_idle.false) c.requires.1 c.in_ok-values.was,
     )
 
-pub returns : goal.returns
-returns c =
-    resize_changed _ _ _ _ _ _ _ (rw c.left-room.ensures at c.resize_answer-answer.ensures) _ _ _ _ _ _ _
-    (sym c.node_at-entry.ensures ∙ c.in-Node.is)
-    c.call_change.ensures
+pub returns-clause-call : goal.returns-clause-call
+returns-clause-call c =
+    let v = c.view-view.ensures in
+    changed_left (store_in c.args.tables.now c.args.counters) c.args.log.now c.args.to _ _ _ _ (rw (v.slots, v.links, v.heads, c.left-room.ensures) at c.resize_answer.ensures) _
+    (live_found _ _ _ (sym (rw (c.live_node.ensures, v.slots) at c.ok_or.ensures.value) ∙ c.in_ok-meta.was))
+    (sym c.is_idle.ensures ∙ c.if-is_idle.false) c.in_ok-values.was c.resize.ensures.words.store_after
+
+pub returns-clause-log : goal.returns-clause-log
+returns-clause-log c =
+    let v = c.view-view.ensures in
+    changed_log (store_in c.args.tables.now c.args.counters) c.args.log.now c.args.to _ _ _ _ (rw (v.slots, v.links, v.heads, c.left-room.ensures) at c.resize_answer.ensures) _
+    (live_found _ _ _ (sym (rw (c.live_node.ensures, v.slots) at c.ok_or.ensures.value) ∙ c.in_ok-meta.was))
+    (sym c.is_idle.ensures ∙ c.if-is_idle.false) c.in_ok-values.was c.resize.ensures.words.log_after

@@ -1,29 +1,35 @@
 -- The port of an unlink that is done stands below the mark, so it has a word in the table of links.
-use mathlib.Core.Path.{◌∙◌, sym, refl, ap}
+use mathlib.Core.Path.{refl, sym, ap, ◌∙◌}
+use Rattle.std.specs.Prelude.{Err}
+use Rattle.std.proofs.lemmas.Result.{err_from_is_err_and}
 use native.Mathlib.Omega.{arith}
 use Rattle.slabs.specs.Counters.{links_uncounted}
+use Rattle.edits.specs.Answer.{is_done}
 use Rattle.calls.specs.Call.{unlink_call}
-use Rattle.calls.proofs.BecameLaws.{became_refused, became_quiet}
+use Rattle.calls.proofs.BecameLaws.{left_refused, left_done}
 use Rattle.calls.proofs.LinkAnswerLaws.{unlink_done}
 use Rattle.calls.proofs.call_unlink.Goals as goal
 
-pub returns-then-not-is_done : goal.returns-then-not-is_done
+pub returns-in_err-values-clause-call : goal.returns-in_err-values-clause-call
 unfolding unlink_call
-returns-then-not-is_done c =
-    rw (← c.unlink_answer-answer.ensures)
-    (became_refused _ _ _ _ _ _ _ _ _ _ _ (sym c.is_done.ensures ∙ c.if-not-is_done.true) c.give.ensures)
+returns-in_err-values-clause-call c =
+    let v = c.view-view.ensures in
+    let p = err_from_is_err_and c.from_residual.result c.from_residual.ensures.1 in
+    left_refused _ _ _ _ (sym (rw (v.owners, v.links) at c.unlink_answer.ensures) ∙ c.in_err-values.was) (p.1 ∙ ap Err p.2)
 
 pub cut-wires-requires : goal.cut-wires-requires
 cut-wires-requires c =
+    let v = c.view-view.ensures in
     let a = c.args in
-    let below = unlink_done a.owners.now a.links.now a.counters.portmark a.call.a (rw c.unlink_answer-answer.ensures at (sym c.is_done.ensures ∙ c.if-not-is_done.false)) in
-    let fit = c.requires.0 in
+    let t = a.tables.now in
+    let below = unlink_done t.owners.now t.links.now a.counters.portmark a.port (ap is_done (sym (rw (v.owners, v.links) at c.unlink_answer.ensures) ∙ c.in_ok-values.was)) in
+    let fit = c.requires in
     (omega (arith, below, fit.port_room), fit.links_inside)
 
-pub returns : goal.returns
+pub returns-clause-call : goal.returns-clause-call
 unfolding unlink_call
-returns c =
-    let a = c.args in
-    rw (← c.unlink_answer-answer.ensures)
-    (became_quiet _ _ _ _ _ a.slots.now _ a.owners.now a.heads.now _ _ (sym c.is_done.ensures ∙ c.if-not-is_done.false) c.give-2.ensures
-    (record { slots_after = refl; links_after = c.cut-wires.ensures.0; owners_after = refl; heads_after = refl; counters_after = c.links_uncounted.ensures ∙ ap (links_uncounted a.counters) c.cut-wires.ensures.1 }))
+returns-clause-call c =
+    let v = c.view-view.ensures in
+    left_done _ _ _ _ (sym (rw (v.owners, v.links) at c.unlink_answer.ensures) ∙ c.in_ok-values.was)
+    (record { slots_after = refl; links_after = c.cut-wires.ensures.0; owners_after = refl; heads_after = refl; counters_after = c.links_uncounted.ensures ∙ ap (links_uncounted c.args.counters) c.cut-wires.ensures.1 })
+    refl

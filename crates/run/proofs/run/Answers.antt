@@ -5,4 +5,5 @@ use Rattle.run.proofs.run.Goals as goal
 
 pub answer_calls-requires : goal.answer_calls-requires
 answer_calls-requires c =
-    ran_sound _ _ _ _ _ _ _ _ _ _ c.well_shaped.ensures (search rules) _ _ c.audit.ensures (search rules)
+    let v = c.view-view.ensures in
+    rw (← v.slots, ← v.links, ← v.owners, ← v.heads) (ran_sound _ _ _ _ _ _ _ _ _ _ c.well_shaped.ensures (search rules) _ _ c.audit.ensures (search rules))

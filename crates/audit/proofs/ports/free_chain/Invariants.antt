@@ -1,13 +1,10 @@
 -- `free_chain` claims the free slabs of one size along their chain: those that the walk has passed are claimed.
 use Prim.Native.Nat.{◌-◌}
-use mathlib.Core.Path.{◌≡◌}
-use lib.ListN.{length}
 use Rattle.audit.proofs.FreeLaws.{Walked}
 use Rattle.audit.proofs.ports.free_chain.Given as goal
 
-abbrev pub invariant-loop-word : goal.invariant-loop-word
-invariant-loop-word l =
-    (length l.scratch ≡ length l.initial.scratch) × Walked l.links l.owners l.initial.scratch l.mark l.head l.size l.scratch l.ports l.word
+abbrev pub invariant-loop-first : goal.invariant-loop-first
+invariant-loop-first l = Walked l.links l.owners l.initial.scratch l.mark l.head l.size l.scratch l.ports l.word
 
-abbrev pub decreases-loop-word : goal.decreases-loop-word
-decreases-loop-word l = l.mark - l.ports
+abbrev pub decreases-loop-first : goal.decreases-loop-first
+decreases-loop-first l = l.mark - l.ports

@@ -1,13 +1,6 @@
--- `free_slabs` claims the free slabs of all sizes, chain by chain: those of the first i sizes are claimed.
-use Prim.Native.Nat.{◌-◌, ◌≤◌}
-use mathlib.Core.Path.{◌≡◌}
-use lib.ListN.{length}
+-- `free_slabs` claims the free slabs of all sizes, chain by chain: those of the sizes that the loop has passed are claimed.
 use Rattle.audit.proofs.FreeLaws.{FreeSoFar}
 use Rattle.audit.proofs.ports.free_slabs.Given as goal
 
-abbrev pub invariant-loop-i : goal.invariant-loop-i
-invariant-loop-i l =
-    (l.i ≤ length l.heads) × (length l.scratch ≡ length l.initial.scratch) × FreeSoFar l.links l.owners l.heads l.initial.scratch l.mark l.scratch l.ports l.i
-
-abbrev pub decreases-loop-i : goal.decreases-loop-i
-decreases-loop-i l = length l.heads - l.i
+abbrev pub invariant-loop-index : goal.invariant-loop-index
+invariant-loop-index l = FreeSoFar l.view.links.now l.view.owners.now l.view.heads.now l.initial.scratch l.mark l.scratch l.ports l.index

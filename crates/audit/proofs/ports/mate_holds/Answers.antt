@@ -1,42 +1,20 @@
--- `mate_holds` decides rule 6 for one live port: each failed test refutes its mate.
-use Prim.Native.Nat.{◌-◌}
-use mathlib.Core.Path.{sym, ◌∙◌}
+-- `mate_holds` decides rule 6 for one live port: where a test before the last one fails, the word names no mate.
+use Prim.Native.Nat.{suc}
+use mathlib.Core.Path.{◌≡◌, sym, ◌∙◌}
 use native.Mathlib.Omega.{arith}
-use native.Mathlib.Numerals.{add-one}
 use lib.ListN.{get_or}
-use Rattle.audit.proofs.PortLaws.{word_free, word_port, mate_there, mate_back}
-use Rattle.audit.proofs.DecideLaws.{decided_so, decided_not, decides_from, decides_eq}
+use Rattle.audit.proofs.DecideLaws.{decided_not}
 use Rattle.audit.proofs.ports.mate_holds.Goals as goal
+use Rattle.audit.proofs.ports.mate_holds.Goals.{then-mate-mark, else-mate-mark}
 
-pub returns-then-word-eq0 : goal.returns-then-word-eq0
-returns-then-word-eq0 c = decided_so (λ q e. absurd (omega (arith, c.if-word-eq0.true)))
-
-pub returns-then-mark-word : goal.returns-then-mark-word
-returns-then-mark-word c =
-    let there = get_or c.args.links.now c.args.port 0 - 1 in
-    let mate = mate_there c.args.links.now c.args.owners.now c.args.port c.if-word-eq0.false in
-    decided_not (λ h. (mate h).there (c.requires.6 there (omega arith)))
-
-pub returns-in_default : goal.returns-in_default
-returns-in_default c =
-    let e = sym c.port_entry-entry.ensures ∙ c.in_default.is in
-    let mate = mate_there c.args.links.now c.args.owners.now c.args.port c.if-word-eq0.false in
-    decided_not (λ h. (mate h).there (word_free _ e))
-
-pub returns-then-direction-facing : goal.returns-then-direction-facing
-returns-then-direction-facing c =
-    let e = sym c.port_entry-entry.ensures ∙ c.in-Port.is in
-    let mate = mate_there c.args.links.now c.args.owners.now c.args.port c.if-word-eq0.false in
-    decided_not (λ h. (mate h).across (sym c.requires.5 ∙ c.if-direction-facing.true ∙ (word_port _ _ _ e).1))
-
-pub returns : goal.returns
-returns c =
-    let e = sym c.port_entry-entry.ensures ∙ c.in-Port.is in
-    let said = word_port _ _ _ e in
-    let mate = mate_there c.args.links.now c.args.owners.now c.args.port c.if-word-eq0.false in
-    decides_from (decides_eq _ _)
-    (λ z.
-    mate_back c.args.links.now c.args.owners.now c.args.port
-    c.if-word-eq0.false
-    (record { here = c.requires.4; there = said.0; across = λ same. c.if-direction-facing.false (c.requires.5 ∙ same ∙ sym said.1); back = z ∙ add-one _ }))
-    (λ h. (mate h).back ∙ sym (add-one _))
+pub returns-else-faces_away : goal.returns-else-faces_away
+returns-else-faces_away c =
+    let mate = c.in-Some.mate in
+    let e : get_or c.args.links.now c.args.port 0 ≡ suc mate = omega (arith, c.in-Some.ensures) in
+    rw c.if-faces_away.false
+    (decided_not
+    (λ h.
+    elim c.if-mate-mark.branch [
+      | then-mate-mark w ↦ w.faces_away.ensures.not_so (sym w.value-is ∙ c.if-faces_away.false) ((h mate e).there, λ same. (h mate e).across (sym c.requires.5 ∙ same))
+      | else-mate-mark w ↦ (h mate e).there (c.requires.6 mate (omega arith))
+    ]))

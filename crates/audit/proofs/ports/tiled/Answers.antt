@@ -1,35 +1,36 @@
 -- `tiled` decides whether the slabs tile the ports: it claims them all and counts.
+use Prim.Native.Nat.{ℕ}
+use mathlib.Core.Path.{◌≡◌}
+use mathlib.Core.List.{List}
 use native.Mathlib.Omega.{arith}
-use borrow.Author.Rules.{rules}
-use borrow.Author.Tests.{not-true, not-false}
+use lib.Dec.{eqb}
+use lib.ListN.{length, get_or}
+use Rattle.std.specs.Prelude.{Option, None, Some}
+use Rattle.std.specs.Option.{option_eq}
+use Rattle.slabs.specs.declared.counters.Counters.{Counters}
+use Rattle.sound.specs.Sound.{held_at}
+use Rattle.audit.specs.Decides.{Decides}
+use Rattle.audit.specs.Parts.{HeldSlabs, FreeClaimed, TiledHolds}
 use Rattle.audit.proofs.DecideLaws.{decided_not, decides_from, decides_eq}
 use Rattle.audit.proofs.TiledLaws.{tiled_once, tiled_made, tiled_counted}
 use Rattle.audit.proofs.ports.tiled.Goals as goal
 
-pub returns-then-not-held : goal.returns-then-not-held
-returns-then-not-held c =
-    decided_not
-    (λ h. c.held_slabs-held.ensures.not_so (not-true _ c.if-not-held.true) h.held (λ p. omega (arith, tiled_once _ _ _ _ _ h p)))
+-- where the slabs of the live slots are claimed, the free slabs and the count decide
+module _ (slots links owners heads scratch scratch' : List ℕ) (c : Counters) (held : HeldSlabs slots links owners c)
+    (here : (p : ℕ) → get_or scratch p 0 ≡ held_at slots c.nodemark p) where
+  counted : (r : Option ℕ) → FreeClaimed links owners heads scratch c.portmark (length heads) scratch' r
+      → Decides (option_eq eqb r (Some c.portmark)) (TiledHolds slots links owners heads c)
+  counted None stuck = decided_not (λ h. stuck h.chains h.free (λ p. omega (arith, here p, tiled_once _ _ _ _ _ h p)))
+  counted (Some ports) (chains, free, claimed, tally) =
+      decides_from
+      (decides_eq _ _)
+      (tiled_made _ _ _ _ _ held chains free _ _ (λ p. omega (arith, here p, claimed p)) tally)
+      (tiled_counted _ _ _ _ _ held chains free _ _ (λ p. omega (arith, here p, claimed p)) tally)
 
-pub free_slabs-all-requires : goal.free_slabs-all-requires
-free_slabs-all-requires c =
-    let z = c.requires in
-    let t = c.held_slabs-held.ensures.so (not-false _ c.if-not-held.false) in
-    (record { links_reach = z.0.links_reach; owners_reach = z.0.owners_reach; scratch_reach = search rules; small = z.0.small }, z.3, t.2)
-
-pub returns-then-not-all : goal.returns-then-not-all
-returns-then-not-all c =
-    let t = c.held_slabs-held.ensures.so (not-false _ c.if-not-held.false) in
-    decided_not
-    (λ h.
-    c.free_slabs-all.ensures.not_so (not-true _ c.if-not-all.true) h.chains h.free
-    (λ p. omega (arith, t.1 p, tiled_once _ _ _ _ _ h p)))
+pub returns-in_default : goal.returns-in_default
+returns-in_default c = decided_not (λ h. c.in_default.ensures h.held (λ p. omega (arith, tiled_once _ _ _ _ _ h p)))
 
 pub returns : goal.returns
 returns c =
-    let t = c.held_slabs-held.ensures.so (not-false _ c.if-not-held.false) in
-    let u = c.free_slabs-all.ensures.so (not-false _ c.if-not-all.false) in
-    decides_from
-    (decides_eq _ _)
-    (tiled_made _ _ _ _ _ t.0 u.0 u.1 _ _ (λ p. omega (arith, t.1 p, u.2 p)) u.3)
-    (tiled_counted _ _ _ _ _ t.0 u.0 u.1 _ _ (λ p. omega (arith, t.1 p, u.2 p)) u.3)
+    let t = c.in-Some.ensures in
+    rw c.eq.ensures (counted _ _ _ _ _ _ _ t.0 t.1 _ c.free_slabs.ensures)

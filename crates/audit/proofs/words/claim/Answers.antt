@@ -1,59 +1,65 @@
-use Prim.Native.Nat.{ℕ, ◌+◌}
-use mathlib.Core.Path.{◌≡◌, refl, sym, ap, ◌∙◌}
-use mathlib.Core.List.{List}
-use mathlib.Core.Bool.{true≢false, false≢true}
+use Prim.Native.Nat.{ℕ, ◌+◌, ◌-◌, ◌≤◌, ◌<◌}
+use mathlib.Core.Path.{◌≡◌, sym, ap, ◌∙◌}
+use mathlib.Core.List.{List, ◌++◌}
+use mathlib.Core.Bool.{false≢true}
 use native.Mathlib.Omega.{arith}
 use native.Mathlib.Numerals.{add-one}
 use borrow.Author.Count.{below_none, below_more}
-use lib.ListN.{length, get_or}
+use borrow.Author.Rules.{rules}
+use borrow.Rule.Slice.PartMut.{put_mid, post_of, put_same}
+use lib.ListN.{length, get_or, set, take}
+use lib.Seq.{length-take-le}
+use Rattle.std.proofs.lemmas.List.{places}
+use Rattle.std.proofs.lemmas.List.{set-append_left, set-append_right, set-get_or}
 use Rattle.slabs.specs.Slab.{filled}
-use Rattle.slabs.proofs.Shapes.{filled-length}
 use Rattle.slabs.proofs.FillLaws.{filled_above}
 use Rattle.audit.proofs.words.claim.Invariants.{Taken}
 use Rattle.audit.proofs.words.claim.Goals as goal
 
+-- a write to a part of a table is one to the table
+set_part : (a k i v : ℕ) (table part : List ℕ) → a ≤ length table → i < length part
+    → put_mid a k table (set part i v) ≡ set (put_mid a k table part) (a + i) v
+set_part a k i v table part inside h =
+    let same : a + i - a ≡ i = omega arith in
+    sym
+    (set-append_right (take a table) (part ++ post_of a k table) a (a + i) v (length-take-le a table inside) (omega arith)
+    ∙ rw same (ap (λ l. take a table ++ l) (set-append_left part (post_of a k table) i v h)))
+
+-- a place of the part, as the table has it
+part_at : (a k i : ℕ) (table part : List ℕ) → a ≤ length table → i < length part → get_or (put_mid a k table part) (a + i) 0 ≡ get_or part i 0
+part_at a k i table part inside h = search (rules, places)
+
 -- the place that comes next is as it was
-untaken : {scratch₀ : List ℕ} {first n : ℕ} {scratch : List ℕ} {i : ℕ} → Taken scratch₀ first n scratch i
-    → get_or scratch (first + i) 0 ≡ get_or scratch₀ (first + i) 0
-untaken {scratch₀} {first} {n} {scratch} {i} t = rw t.words (filled_above scratch₀ first i 1 (first + i) (omega arith))
+untaken : (scratch : List ℕ) (first n : ℕ) (places : List ℕ) (i : ℕ) → Taken scratch first n places i → first ≤ length scratch → i < length places
+    → get_or places i 0 ≡ get_or scratch (first + i) 0
+untaken scratch first n places i t inside h =
+    sym (part_at first (first + n - first) i scratch places inside h) ∙ ap (λ l. get_or l (first + i) 0) t.words
+    ∙ filled_above scratch first i 1 (first + i) (omega arith)
 
--- a table keeps its length
-same : {scratch₀ : List ℕ} {first n : ℕ} {scratch : List ℕ} {i : ℕ} → Taken scratch₀ first n scratch i → length scratch ≡ length scratch₀
-same {scratch₀} {first} {n} {scratch} {i} t = ap length t.words ∙ filled-length scratch₀ first i 1
-
-pub loop-i-init : goal.loop-i-init
+pub loop-place-init : goal.loop-place-init
 unfolding filled
-loop-i-init c = record { within = omega arith; were_free = below_none _; words = refl }
+loop-place-init c =
+    let a = c.args in
+    record { were_free = below_none _; words = put_same a.first (a.first + a.n - a.first) a.scratch.now }
 
-pub offset_bounds-scratch-first : goal.offset_bounds-scratch-first
-offset_bounds-scratch-first c = omega arith
-
-pub bounds-scratch-first : goal.bounds-scratch-first
-bounds-scratch-first c = omega (arith, same c.loop-i.invariant)
-
-pub returns-then-scratch-first-ne0 : goal.returns-then-scratch-first-ne0
-returns-then-scratch-first-ne0 c =
-    let l = c.loop-i in
-    record { claimed = λ e. absurd (false≢true e); refused = λ e. (l.i, omega arith, λ z. c.if-scratch-first-ne0.true (untaken l.invariant ∙ z), l.invariant.words) }
-
-pub offset_bounds-scratch-first-in-loop-i : goal.offset_bounds-scratch-first-in-loop-i
-offset_bounds-scratch-first-in-loop-i c = omega arith
-
-pub bounds-scratch-first-in-loop-i : goal.bounds-scratch-first-in-loop-i
-bounds-scratch-first-in-loop-i c = omega (arith, same c.loop-i.invariant)
-
-pub loop-i-preserved : goal.loop-i-preserved
-unfolding filled
-loop-i-preserved c =
-    let l = c.loop-i in
+pub returns-then-place-ne0 : goal.returns-then-place-ne0
+returns-then-place-ne0 c =
+    let l = c.loop-place in
+    let more : l.place-index < c.args.n = grind (arith, places) in
     record {
-      within = omega arith;
-      were_free = below_more _ _ l.invariant.were_free (sym (untaken l.invariant) ∙ c.if-scratch-first-ne0.false);
-      words = rw add-one (rw l.invariant.words);
+      claimed = λ e. absurd (false≢true e);
+      refused = λ e. (l.place-index, more, λ z. c.if-place-ne0.true (untaken _ _ _ _ _ l.invariant (omega arith) (omega arith) ∙ z), rw set-get_or l.invariant.words);
     }
 
-pub returns : goal.returns
-returns c =
-    let l = c.loop-i in
-    let e : l.i ≡ c.args.n = omega arith in
-    record { claimed = λ t. rw (← e) (l.invariant.were_free, l.invariant.words); refused = λ t. absurd (true≢false t) }
+pub loop-place-preserved : goal.loop-place-preserved
+unfolding filled
+loop-place-preserved c =
+    let a = c.args in
+    let l = c.loop-place in
+    record {
+      were_free = below_more _ _ l.invariant.were_free (sym (untaken _ _ _ _ _ l.invariant (omega arith) (omega arith)) ∙ c.if-place-ne0.false);
+      words =
+          rw add-one
+          (set_part a.first (a.first + a.n - a.first) l.place-index 1 a.scratch.now l.place-items (omega arith) (omega arith)
+          ∙ ap (λ t. set t (a.first + l.place-index) 1) l.invariant.words);
+    }

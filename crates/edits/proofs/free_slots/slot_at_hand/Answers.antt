@@ -7,6 +7,6 @@ pub returns-then-counters-ne0 : goal.returns-then-counters-ne0
 unfolding slot_at_hand
 returns-then-counters-ne0 c = simp (ne_eqb _ _ c.if-counters-ne0.true)
 
-pub returns : goal.returns
+pub returns-else-counters-ne0 : goal.returns-else-counters-ne0
 unfolding slot_at_hand
-returns c = simp (eq-eqb _ _ c.if-counters-ne0.false)
+returns-else-counters-ne0 c = simp (eq-eqb _ _ c.if-counters-ne0.false)

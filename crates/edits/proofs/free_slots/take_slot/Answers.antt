@@ -4,7 +4,7 @@ use native.Mathlib.Omega.{arith}
 use Prim.Native.Nat.{ℕ, ◌-◌}
 use Rattle.slabs.specs.declared.counters.Counters.{Counters}
 use mathlib.Core.Path.{◌≡◌, ◌∙◌}
-use Rattle.edits.specs.FreeSlots.{next_slot, slot_taken, taken_node_mark, taken_free_slot}
+use Rattle.edits.specs.FreeSlots.{next_slot, set_previous, slot_taken, taken_node_mark, taken_free_slot}
 use Rattle.edits.proofs.free_slots.take_slot.Goals as goal
 
 -- where the chain has a slot, the slot that is taken is its head
@@ -25,15 +25,16 @@ returns-then-counters-eq0 c =
 pub bounds-slots-node : goal.bounds-slots-node
 bounds-slots-node c = omega (arith, head_free _ _ c.if-counters-eq0.false c.next_slot-node.ensures)
 
-pub set_previous-requires : goal.set_previous-requires
-set_previous-requires c = c.requires.second _ (omega (arith, head_free _ _ c.if-counters-eq0.false c.next_slot-node.ensures))
+pub set_neighbour-requires : goal.set_neighbour-requires
+set_neighbour-requires c =
+    (c.requires.second _ (omega (arith, head_free _ _ c.if-counters-eq0.false c.next_slot-node.ensures)), omega arith)
 
 pub returns : goal.returns
-unfolding slot_taken taken_node_mark taken_free_slot
+unfolding slot_taken set_previous taken_node_mark taken_free_slot
 returns c =
     let e = ne_eqb _ _ c.if-counters-eq0.false in
     record {
       node = c.next_slot-node.ensures;
       counters = simp e (rw (← head_free _ _ c.if-counters-eq0.false c.next_slot-node.ensures) c.free_slot_moved.ensures);
-      slots_after = simp e (rw (← head_free _ _ c.if-counters-eq0.false c.next_slot-node.ensures) c.set_previous.ensures);
+      slots_after = simp e (rw (← head_free _ _ c.if-counters-eq0.false c.next_slot-node.ensures) c.set_neighbour.ensures);
     }

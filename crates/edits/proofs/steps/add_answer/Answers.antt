@@ -2,14 +2,15 @@
 use borrow.Author.Tests.{lt-ltb, le-ltb}
 use Rattle.edits.specs.Steps.{add_answer}
 use Rattle.edits.proofs.steps.add_answer.Goals as goal
+use Rattle.edits.proofs.steps.add_answer.Goals.{then-inlets-gt-MOST-via-then-inlets-gt-MOST, then-inlets-gt-MOST-via-else-inlets-gt-MOST+then-outlets-gt-MOST}
 
 pub returns-then-inlets-gt-MOST : goal.returns-then-inlets-gt-MOST
 unfolding add_answer
-returns-then-inlets-gt-MOST c = simp (lt-ltb _ _ c.if-inlets-gt-MOST.true)
-
-pub returns-then-outlets-gt-MOST : goal.returns-then-outlets-gt-MOST
-unfolding add_answer
-returns-then-outlets-gt-MOST c = simp (le-ltb _ _ c.if-inlets-gt-MOST.false, lt-ltb _ _ c.if-outlets-gt-MOST.true)
+returns-then-inlets-gt-MOST c =
+    elim c.then-inlets-gt-MOST.branch [
+      | then-inlets-gt-MOST-via-then-inlets-gt-MOST w ↦ simp (lt-ltb _ _ w.if-inlets-gt-MOST.true)
+      | then-inlets-gt-MOST-via-else-inlets-gt-MOST+then-outlets-gt-MOST w ↦ simp (le-ltb _ _ w.if-inlets-gt-MOST.false, lt-ltb _ _ w.if-outlets-gt-MOST.true)
+    ]
 
 pub returns-then-heads-total : goal.returns-then-heads-total
 unfolding add_answer

@@ -7,6 +7,6 @@ pub returns-then-total-eq0 : goal.returns-then-total-eq0
 unfolding new_slab_at_hand
 returns-then-total-eq0 c = simp (eq-eqb _ _ c.if-total-eq0.true)
 
-pub returns : goal.returns
+pub returns-else-total-eq0 : goal.returns-else-total-eq0
 unfolding new_slab_at_hand
-returns c = simp (ne_eqb _ _ c.if-total-eq0.false) c.at_hand.ensures
+returns-else-total-eq0 c = simp (ne_eqb _ _ c.if-total-eq0.false) c.at_hand.ensures

@@ -5,9 +5,9 @@ use borrow.Author.Tests.{eq-eqb, ne_eqb}
 use Rattle.edits.specs.Steps.{removed, removed_links, removed_owners, removed_heads, removed_counters}
 use Rattle.edits.proofs.steps.remove.Goals as goal
 
-pub returns-then-meta-eq0 : goal.returns-then-meta-eq0
+pub returns-then-meta-eq0-clause-store : goal.returns-then-meta-eq0-clause-store
 unfolding removed removed_links removed_owners removed_heads removed_counters
-returns-then-meta-eq0 c =
+returns-then-meta-eq0-clause-store c =
     let test = eq-eqb _ _ c.if-meta-eq0.true in
     let slot = c.free_slot.ensures in
     record {
@@ -36,9 +36,9 @@ overflow_add-meta c =
     let slab = c.requires.0.live c.args.node c.args.meta c.requires.1 c.requires.2 in
     omega (arith, slab.few_inlets, slab.few_outlets)
 
-pub returns : goal.returns
+pub returns-clause-store : goal.returns-clause-store
 unfolding removed removed_links removed_owners removed_heads removed_counters
-returns c =
+returns-clause-store c =
     let slab = c.free_slab-wires.ensures in
     let slot = c.free_slot.ensures in
     let test = ne_eqb _ _ c.if-meta-eq0.false in

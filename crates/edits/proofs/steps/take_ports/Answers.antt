@@ -18,9 +18,9 @@ returns-then-total-eq0 c =
     let test = eq-eqb _ _ c.if-total-eq0.true in
     record { first = simp test; counters = simp test; links_after = simp test; owners_after = rw (i, o); heads_after = simp test }
 
-pub take_slab-taken-requires : goal.take_slab-taken-requires
+pub take_slab-first-requires : goal.take_slab-first-requires
 unfolding new_slab_at_hand
-take_slab-taken-requires c =
+take_slab-first-requires c =
     let a = c.args in
     let total = a.inlets + a.outlets in
     let one : 1 ≤ total = omega arith in
@@ -40,12 +40,12 @@ write_owners-requires c =
     let one : 1 ≤ total = omega arith in
     let had = simp (ne_eqb _ _ c.if-total-eq0.false) at c.requires.slab in
     let ends = taken_ends a.heads.now a.counters.portmark (length a.links.now) total had (λ first e. c.requires.inside first one e) in
-    (c.requires.few, rw c.take_slab-taken.ensures.first (omega (arith, ends)))
+    (c.requires.few, rw c.take_slab-first.ensures.first (omega (arith, ends)))
 
 pub returns : goal.returns
 unfolding new_first new_mark new_links new_heads
 returns c =
-    let slab = c.take_slab-taken.ensures in
+    let slab = c.take_slab-first.ensures in
     let test = ne_eqb _ _ c.if-total-eq0.false in
     record {
       first = simp test slab.first;

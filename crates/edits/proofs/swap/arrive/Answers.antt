@@ -24,12 +24,12 @@ write_owners-requires c =
     let inside = rw c.in-Node.is at pre.entry_inside in
     (pre.few, inside.1)
 
-pub set_next-requires : goal.set_next-requires
-set_next-requires c =
+pub set_neighbour-requires : goal.set_neighbour-requires
+set_neighbour-requires c =
     let inside = rw c.in-Free.is at c.requires.entry_inside in
-    omega (arith, inside.0)
+    (omega (arith, inside.0), omega arith)
 
-pub set_previous-requires : goal.set_previous-requires
-set_previous-requires c =
+pub set_neighbour-requires-in-Free : goal.set_neighbour-requires-in-Free
+set_neighbour-requires-in-Free c =
     let inside = rw c.in-Free.is at c.requires.entry_inside in
-    omega (arith, inside.1)
+    (omega (arith, inside.1), omega arith)

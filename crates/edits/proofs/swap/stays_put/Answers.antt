@@ -9,5 +9,5 @@ returns-then-a-b c = simp (eq-eqb _ _ c.if-a-b.true)
 pub returns-then-is_free : goal.returns-then-is_free
 returns-then-is_free c = simp (ne_eqb _ _ c.if-a-b.false, sym c.is_free.ensures ∙ c.if-is_free.true) c.is_free-then-is_free.ensures
 
-pub returns : goal.returns
-returns c = simp (ne_eqb _ _ c.if-a-b.false, sym c.is_free.ensures ∙ c.if-is_free.false)
+pub returns-else-is_free : goal.returns-else-is_free
+returns-else-is_free c = simp (ne_eqb _ _ c.if-a-b.false, sym c.is_free.ensures ∙ c.if-is_free.false) c.if-is_free.false

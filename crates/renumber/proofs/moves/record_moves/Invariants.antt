@@ -1,5 +1,5 @@
 -- After i turns the log holds the first i records of the run, and each turn writes the next.
-use Prim.Native.Nat.{ℕ, ◌+◌, ◌-◌, ◌≤◌}
+use Prim.Native.Nat.{ℕ, ◌+◌}
 use mathlib.Core.Path.{◌≡◌}
 use Rattle.renumber.specs.Records.{Rec, rec, logged, listed}
 use Rattle.renumber.specs.Moves.{turn}
@@ -11,7 +11,4 @@ abbrev pub move_at : Run → ℕ → Rec
 move_at run i = rec 3 (run.from + turn run i) (run.to + turn run i)
 
 abbrev pub invariant-loop-i : goal.invariant-loop-i
-invariant-loop-i l = (l.i ≤ l.run.n) × (l.log ≡ logged l.initial.log l.to.at l.to.place (listed (move_at l.run) l.i))
-
-abbrev pub decreases-loop-i : goal.decreases-loop-i
-decreases-loop-i l = l.run.n - l.i
+invariant-loop-i l = l.log ≡ logged l.initial.log l.to.at l.to.place (listed (move_at l.run) l.i)

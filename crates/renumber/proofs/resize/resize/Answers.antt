@@ -2,36 +2,23 @@
 use mathlib.Core.Path.{sym, ◌∙◌, ap}
 use native.Mathlib.Omega.{arith}
 use Rattle.slabs.specs.declared.counters.Counters.{Counters}
-use Rattle.renumber.proofs.ResizeParts.{small_change, slot_inside, few_live, can_cut, can_shift, resized_in_place_lem, can_reallocate, resized_into_lem}
+use Rattle.renumber.proofs.ResizeParts.{small_change, few_live, can_cut, can_shift, resized_in_place_lem, can_reallocate, resized_into_lem}
 use Rattle.renumber.proofs.resize.resize.Goals as goal
 
 pub cut_removed-wires-requires : goal.cut_removed-wires-requires
 cut_removed-wires-requires c = can_cut c.requires.0 c.requires.1
 
-pub overflow_add-inlets_removed : goal.overflow_add-inlets_removed
-overflow_add-inlets_removed c =
-    omega (arith, c.inlets_removed.ensures, c.outlets_removed.ensures, (small_change c.requires.0 c.requires.1).meta_fits)
-
-pub overflow_add-before : goal.overflow_add-before
-overflow_add-before c = omega (arith, (small_change c.requires.0 c.requires.1).meta_fits)
-
 pub ports_recounted-cut-requires : goal.ports_recounted-cut-requires
 ports_recounted-cut-requires c =
     omega (arith, ap (λ (r : Counters). r.ports) c.links_uncounted.ensures, few_live c.requires.0 c.requires.1, small_change c.requires.0 c.requires.1)
-
-pub is_in_place-requires : goal.is_in_place-requires
-is_in_place-requires c = small_change c.requires.0 c.requires.1
 
 pub shift-requires : goal.shift-requires
 shift-requires c =
     rw (c.past-next.ensures, c.inlets_removed.ensures, c.outlets_removed.ensures)
     (can_shift c.requires.0 c.requires.1 c.cut_removed-wires.ensures (sym c.is_in_place.ensures ∙ c.if-is_in_place.true))
 
-pub write_change-requires : goal.write_change-requires
-write_change-requires c = (slot_inside c.requires.0 c.requires.1, c.requires.1.few_inlets)
-
-pub returns-then-is_in_place : goal.returns-then-is_in_place
-returns-then-is_in_place c =
+pub returns-then-is_in_place-clause-words : goal.returns-then-is_in_place-clause-words
+returns-then-is_in_place-clause-words c =
     resized_in_place_lem c.requires.0 c.requires.1 c.cut_removed-wires.ensures (sym c.is_in_place.ensures ∙ c.if-is_in_place.true)
     (rw c.links_uncounted.ensures at c.ports_recounted-cut.ensures)
     (rw (c.past-next.ensures, c.inlets_removed.ensures, c.outlets_removed.ensures) at c.shift.ensures) c.write_change.ensures
@@ -42,8 +29,8 @@ reallocate-requires c =
     (can_reallocate c.requires.0 c.requires.1 c.cut_removed-wires.ensures (rw c.links_uncounted.ensures at c.ports_recounted-cut.ensures)
     (sym c.is_in_place.ensures ∙ c.if-is_in_place.false))
 
-pub returns : goal.returns
-returns c =
+pub returns-clause-words : goal.returns-clause-words
+returns-clause-words c =
     resized_into_lem c.requires.0 c.requires.1 c.cut_removed-wires.ensures (rw c.links_uncounted.ensures at c.ports_recounted-cut.ensures)
     (sym c.is_in_place.ensures ∙ c.if-is_in_place.false)
-    (rw (c.past-next.ensures, c.inlets_removed.ensures, c.outlets_removed.ensures) at c.reallocate.ensures)
+    (rw (c.past-next.ensures, c.inlets_removed.ensures, c.outlets_removed.ensures) at c.reallocate.ensures.words)

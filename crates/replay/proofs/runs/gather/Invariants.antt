@@ -1,9 +1,9 @@
--- Each line that is read takes the place further, and no more calls are gathered than there is room for.
+-- Each line that is read takes the place further.
 use Rattle.std.proofs.Common.{length, ◌-◌, ◌≤◌}
 use Rattle.replay.proofs.runs.gather.Given as goal
 
-abbrev pub invariant-loop-next : goal.invariant-loop-next
-invariant-loop-next l = (l.count ≤ 256) × (l.initial.next ≤ l.next)
+abbrev pub invariant-loop-at : goal.invariant-loop-at
+invariant-loop-at l = l.from ≤ l.at
 
-abbrev pub decreases-loop-next : goal.decreases-loop-next
-decreases-loop-next l = length l.text - l.next
+abbrev pub decreases-loop-at : goal.decreases-loop-at
+decreases-loop-at l = length l.text - l.at

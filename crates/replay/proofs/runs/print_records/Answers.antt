@@ -1,17 +1,24 @@
-use Rattle.std.proofs.Common.{◌≡◌, ◌+◌, ◌-◌, ◌/◌, length, take, drop, ap, arith, refl}
-use Rattle.replay.proofs.TranscriptLaws.{four_words, no_record, record_printed, record_passed}
+use Rattle.std.proofs.Common.{◌∷◌, [], length-append, arith}
+use Rattle.text.proofs.FourLaws.{fours_begin, four_given}
+use Rattle.replay.proofs.TranscriptLaws.{no_record, record_printed, record_passed}
 use Rattle.replay.proofs.runs.print_records.Goals as goal
 
-pub loop-at-init : goal.loop-at-init
-loop-at-init g c = (omega arith, refl, no_record _ _ _)
+pub loop-record-init : goal.loop-record-init
+loop-record-init g c =
+    let made = c.chunks_exact-record-items.ensures in
+    (fours_begin _ _ _ c.into_iter-record-iterator.ensures.into_iter_gives made.size made.rest, no_record _ _ _)
 
-pub loop-at-preserved-in_ok-print_line : goal.loop-at-preserved-in_ok-print_line
-loop-at-preserved-in_ok-print_line g c =
-    let l = c.loop-at in
-    let four : length (take (l.at + 4 - l.at) (drop l.at c.args.log.now)) ≡ 4 = ap length (four_words c.args.log.now (l.at / 4) l.at (omega arith) (omega arith)) in
-    (omega arith, omega arith, record_printed _ _ _ _ _ l.at l.invariant.1 (omega arith) c.if-log-at.true l.invariant.2 (c.in_ok-print_line.ensures (omega arith)))
+pub loop-record-preserved-then-record-place : goal.loop-record-preserved-then-record-place
+loop-record-preserved-then-record-place g c =
+    let l = c.loop-record in
+    let next = four_given _ _ _ _ c.in-Some.record l.invariant.0 c.in-Some.ensures.steps in
+    rw (length-append l.yielded (c.in-Some.record ∷ []))
+    (next.1, record_passed _ _ _ _ _ _ next.0 c.if-record-place.true l.invariant.1)
 
-pub loop-at-preserved : goal.loop-at-preserved
-loop-at-preserved g c =
-    let l = c.loop-at in
-    (omega arith, omega arith, record_passed _ _ _ _ l.at l.invariant.1 c.if-log-at.false l.invariant.2)
+pub loop-record-preserved : goal.loop-record-preserved
+loop-record-preserved g c =
+    let l = c.loop-record in
+    let steps = c.in-Some.ensures.steps in
+    let next = four_given _ _ _ _ c.in-Some.record l.invariant.0 steps in
+    rw (length-append l.yielded (c.in-Some.record ∷ []))
+    (next.1, record_printed _ _ _ _ _ _ _ next.0 c.if-record-place.false l.invariant.1 (c.in_ok-print_line.ensures (omega (arith, steps.1.1, l.invariant.0.fours))))

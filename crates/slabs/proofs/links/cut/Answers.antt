@@ -1,24 +1,26 @@
--- A word of 0 leaves the table; another is cleared, and so is the word it leads to, which is inside by what is asked.
-use mathlib.Core.Path.{refl}
+-- A port without a partner leaves the table; else its word is cleared, and so is its partner's, which is inside by what is asked.
+use Prim.Native.Nat.{suc}
+use mathlib.Core.Path.{refl, sym, ◌∙◌}
 use native.Mathlib.Omega.{arith}
+use native.Mathlib.Numerals.{unary_clauses}
 use lib.ListN.{length-set}
-use borrow.Author.Tests.{eq-eqb, ne_eqb}
+use borrow.Author.Tests.{ne_eqb}
 use Rattle.slabs.specs.Links.{cut_at, wired_at}
+use Rattle.slabs.proofs.EntryLaws.{link_none, link_some}
 use Rattle.slabs.proofs.links.cut.Goals as goal
 
-pub returns-then-word-eq0 : goal.returns-then-word-eq0
+pub returns-in_default : goal.returns-in_default
 unfolding cut_at wired_at
-returns-then-word-eq0 c = simp (eq-eqb _ _ c.if-word-eq0.true) (refl, refl)
+returns-in_default c = simp (link_none _ _ (sym c.link_at.ensures ∙ c.in_default.is)) (refl, refl)
 
-pub overflow_cast-links : goal.overflow_cast-links
-overflow_cast-links c = omega (arith, c.requires.1 c.args.port)
-
-pub offset_bounds-links-word : goal.offset_bounds-links-word
-offset_bounds-links-word c = omega (arith, c.requires.1 c.args.port)
-
-pub bounds-links-word : goal.bounds-links-word
-bounds-links-word c = simp length-set (omega (arith, c.requires.1 c.args.port))
+pub bounds-links-partner : goal.bounds-links-partner
+bounds-links-partner c =
+    simp length-set
+    (omega (arith, c.requires.1 c.args.port, link_some c.args.links.now c.args.port c.in-Some.partner (sym c.link_at.ensures ∙ c.in-Some.is)))
 
 pub returns : goal.returns
 unfolding cut_at wired_at
-returns c = simp (ne_eqb _ _ c.if-word-eq0.false) (refl, refl)
+returns c =
+    simp
+    (link_some _ _ _ (sym c.link_at.ensures ∙ c.in-Some.is), ne_eqb (suc c.in-Some.partner) 0 (omega arith), unary_clauses)
+    (refl, refl)

@@ -9,7 +9,7 @@ use Rattle.slabs.proofs.links.cut_run.Goals as goal
 
 pub loop-i-init : goal.loop-i-init
 unfolding cut_run wires_in
-loop-i-init c = record { within = omega arith; words = refl; counted = refl }
+loop-i-init c = record { words = refl; counted = refl }
 
 pub cut-wires-requires : goal.cut-wires-requires
 cut-wires-requires c = rw c.loop-i.invariant.words (rw cut_run-length (omega arith), cut_run_inside _ _ _ c.requires.2)
@@ -25,7 +25,7 @@ unfolding cut_run wires_in
 loop-i-preserved c =
     let l = c.loop-i in
     let a = c.args in
-    record { within = omega arith; words = rw add-one (c.cut-wires.ensures.0 ∙ ap (λ (ls : List ℕ). cut_at ls (a.first + l.i)) l.invariant.words); counted = rw add-one (cc c.cut-wires.ensures.1) }
+    record { words = rw add-one (c.cut-wires.ensures.0 ∙ ap (λ (ls : List ℕ). cut_at ls (a.first + l.i)) l.invariant.words); counted = rw add-one (cc c.cut-wires.ensures.1) }
 
 pub returns : goal.returns
 returns c =

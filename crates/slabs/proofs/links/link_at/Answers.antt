@@ -1,12 +1,8 @@
--- The word is read once, and 0 and not 0 are the two cases of the definition.
-use borrow.Author.Tests.{eq-eqb, ne_eqb}
+-- The word less 1, where it is not 0, is the partner.
 use Rattle.slabs.specs.Links.{link_at}
+use Rattle.slabs.proofs.EntryLaws.{link_word}
 use Rattle.slabs.proofs.links.link_at.Goals as goal
-
-pub returns-then-word-eq0 : goal.returns-then-word-eq0
-unfolding link_at
-returns-then-word-eq0 c = simp (eq-eqb _ _ c.if-word-eq0.true)
 
 pub returns : goal.returns
 unfolding link_at
-returns c = simp (ne_eqb _ _ c.if-word-eq0.false)
+returns c = link_word _ _ c.checked_sub.ensures

@@ -3,10 +3,10 @@ use borrow.Author.Tests.{eq-eqb, ne_eqb}
 use Rattle.slabs.specs.Slab.{at_hand}
 use Rattle.slabs.proofs.slab.at_hand.Goals as goal
 
-pub returns-then-head-ne0 : goal.returns-then-head-ne0
+pub returns-then-heads-size-ne0 : goal.returns-then-heads-size-ne0
 unfolding at_hand
-returns-then-head-ne0 c = simp (ne_eqb _ _ c.if-head-ne0.true)
+returns-then-heads-size-ne0 c = simp (ne_eqb _ _ c.if-heads-size-ne0.true)
 
-pub returns : goal.returns
+pub returns-else-heads-size-ne0 : goal.returns-else-heads-size-ne0
 unfolding at_hand
-returns c = simp (eq-eqb _ _ c.if-head-ne0.false)
+returns-else-heads-size-ne0 c = simp (eq-eqb _ _ c.if-heads-size-ne0.false)

@@ -1,22 +1,10 @@
-use mathlib.Core.Path.{◌≡◌, refl}
-use native.Mathlib.Omega.{arith}
-use native.Mathlib.Numerals.{add-one}
-use Rattle.slabs.specs.Slab.{filled}
-use Rattle.slabs.proofs.Shapes.{filled-length}
+-- The part that is filled as a whole is filled place by place.
+use Rattle.slabs.proofs.FillLaws.{fill_mid, part, part-length}
 use Rattle.slabs.proofs.slab.fill.Goals as goal
-
-pub loop-i-init : goal.loop-i-init
-unfolding filled
-loop-i-init c = (omega arith, refl)
-
-pub bounds-table-first : goal.bounds-table-first
-bounds-table-first c = rw c.loop-i.invariant.1 (rw filled-length (omega arith))
-
-pub loop-i-preserved : goal.loop-i-preserved
-unfolding filled
-loop-i-preserved c = (omega arith, rw add-one (rw c.loop-i.invariant.1))
 
 pub returns : goal.returns
 returns c =
-    let e : c.loop-i.i ≡ c.args.n = omega arith in
-    rw (← e) c.loop-i.invariant.1
+    let a = c.args in
+    rw
+    (c.fill.ensures.after (λ y e. e), part-length a.table.now a.first a.n c.requires, part a.first a.n)
+    (fill_mid a.table.now a.first a.n a.word c.requires)

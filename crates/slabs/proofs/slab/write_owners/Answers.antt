@@ -4,4 +4,4 @@ use Rattle.slabs.proofs.slab.write_owners.Goals as goal
 
 pub returns : goal.returns
 unfolding owners_written
-returns c = rw (c.fill-2.ensures, c.owner_word-2.ensures, c.fill.ensures, c.owner_word.ensures)
+returns c = rw (c.fill-2.ensures, c.owner_word-outlet.ensures, c.fill.ensures, c.owner_word-inlet.ensures)

@@ -5,7 +5,11 @@ use native.Mathlib.Omega.{arith}
 use lib.ListN.{length, drop, length-append, length-drop, drop_of_length-le}
 use lib.Seq.{sets}
 use Rattle.calls.specs.declared.Call.{Call}
+use Rattle.text.specs.declared.input.BadLine.{BadLine}
 use Rattle.text.specs.Lines.{NoLine, call_line, call_text, call_words}
+use Rattle.std.specs.Prelude.{None, Result, Err}
+use Rattle.std.specs.Result.{result_ok}
+use Rattle.std.proofs.lemmas.Result.{err_from_is_err_and}
 use Rattle.text.specs.Parts.{LineAt, Front, BadRead, CallsRead}
 use Rattle.text.proofs.LineLaws.{line_ahead}
 use Rattle.text.proofs.CallLaws.{words_of, text_snoc, words_snoc, small_snoc, words_length, sets_append, front_made}
@@ -77,30 +81,35 @@ module _ (s words₀ words : List ℕ) (at n : ℕ) (room : length words₀ ≡ 
         kept = front;
       }
 
+same_line : {T : Type 0} (r : Result T BadLine) (first second : BadLine) → r ≡ Err first → r ≡ Err second → first.line ≡ second.line
+same_line r first second e f = cc
+
 pub loop-at-init : goal.loop-at-init
 loop-at-init c = passed_none _ _
 
-pub returns-then-n-eq256 : goal.returns-then-n-eq256
-returns-then-n-eq256 c =
-    bad_read _ _ _ _ _ c.requires c.loop-at.invariant 257 (omega arith) (omega arith) (λ h. absurd (omega arith))
+pub returns-then-n-eq-MOST_CALLS : goal.returns-then-n-eq-MOST_CALLS
+returns-then-n-eq-MOST_CALLS c =
+    bad_read _ _ _ _ _ c.told-calls c.loop-at.invariant _ refl (omega arith) (λ h. absurd (omega arith))
 
-pub returns-in_default : goal.returns-in_default
-returns-in_default c =
-    bad_read _ _ _ _ _ c.requires c.loop-at.invariant _ refl (omega arith) (λ h. rw c.in_default.is at c.read_line-line.ensures)
-
-pub write_call-requires : goal.write_call-requires
-write_call-requires c = omega arith
+pub returns-in_err-call : goal.returns-in_err-call
+returns-in_err-call c =
+    let p = err_from_is_err_and c.from_residual.result c.from_residual.ensures.1 in
+    let none : NoLine (drop c.loop-at.at c.args.s.now) = rw (c.ok_or.ensures.ok_part, c.in_err-call.was) at c.read_line.ensures in
+    let nothing : c.read_line.result ≡ None = c.ok_or.ensures.ok_part ∙ ap result_ok c.in_err-call.was in
+    let line = same_line c.ok_or.result _ _ c.in_err-call.was (rw nothing at c.ok_or.ensures.value) in
+    rw (p.1, p.2) (bad_read _ _ _ _ _ c.told-calls c.loop-at.invariant _ line (omega arith) (λ h. none))
 
 pub loop-at-smaller : goal.loop-at-smaller
 loop-at-smaller c =
     let l = c.loop-at in
-    let line : LineAt c.args.s.now l.at c.in-Good.call c.in-Good.next = rw c.in-Good.is at c.read_line-line.ensures in
-    omega (arith, line_ahead c.args.s.now l.at c.in-Good.call c.in-Good.next l.invariant.within line, line.within)
+    let line : LineAt c.args.s.now l.at c.in_ok-call.call c.in_ok-call.next = rw (c.ok_or.ensures.ok_part, c.in_ok-call.was) at c.read_line.ensures in
+    omega (arith, line_ahead c.args.s.now l.at c.in_ok-call.call c.in_ok-call.next l.invariant.within line, line.within)
 
 pub loop-at-preserved : goal.loop-at-preserved
 loop-at-preserved c =
     let l = c.loop-at in
-    passed_more _ _ _ _ _ _ c.in-Good.call c.in-Good.next (omega arith) (rw c.in-Good.is at c.read_line-line.ensures) c.write_call.ensures l.invariant
+    let line : LineAt c.args.s.now l.at c.in_ok-call.call c.in_ok-call.next = rw (c.ok_or.ensures.ok_part, c.in_ok-call.was) at c.read_line.ensures in
+    passed_more _ _ _ _ _ _ c.in_ok-call.call c.in_ok-call.next (omega arith) line c.write_call.ensures l.invariant
 
 pub returns : goal.returns
-returns c = calls_read _ _ _ _ _ c.requires c.loop-at.invariant c.loop-at-test.false
+returns c = calls_read _ _ _ _ _ c.told-calls c.loop-at.invariant c.loop-at-test.false

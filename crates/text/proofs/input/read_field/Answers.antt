@@ -1,28 +1,10 @@
 -- A number is read, and the byte behind it decides.
-use native.Mathlib.Omega.{arith}
-use mathlib.Core.List.{◌∷◌}
-use lib.ListN.{drop}
-use Rattle.text.specs.Parts.{NoNumber}
-use Rattle.text.proofs.LineLaws.{no_end, other_end, field_made}
+use Rattle.std.proofs.Common.{◌≡◌, ◌<◌, arith, length, get_or}
+use Rattle.text.proofs.LineLaws.{other_end}
 use Rattle.text.proofs.input.read_field.Goals as goal
 
-pub returns-in_default : goal.returns-in_default
-returns-in_default c =
-    let n : NoNumber (drop c.args.at c.args.s.now)
-    = rw c.in_default.is at c.read_number-parsed.ensures in
-    λ v rest h e. n v (c.args.end ∷ rest) h c.requires.1 e
-
-pub returns-then-s-next : goal.returns-then-s-next
-returns-then-s-next c =
+pub returns-else-eq : goal.returns-else-eq
+returns-else-eq c =
     let a = c.args in
-    no_end a.s.now a.at a.end c.in-Number.x c.in-Number.next (rw c.in-Number.is at c.read_number-parsed.ensures) c.requires.1 c.if-s-next.true
-
-pub returns-then-s-next-2 : goal.returns-then-s-next-2
-returns-then-s-next-2 c =
-    let a = c.args in
-    other_end a.s.now a.at a.end c.in-Number.x c.in-Number.next (rw c.in-Number.is at c.read_number-parsed.ensures) c.requires.1 (omega arith) c.if-s-next-2.true
-
-pub returns : goal.returns
-returns c =
-    let a = c.args in
-    field_made a.s.now a.at a.end c.in-Number.x c.in-Number.next (rw c.in-Number.is at c.read_number-parsed.ensures) (omega arith) c.if-s-next-2.false
+    let other : c.in_ok-x.next < length a.s.now → get_or a.s.now c.in_ok-x.next 0 ≡ a.end → ⊥ = grind (arith, c.get.ensures.lookup, c.eq.ensures, c.if-eq.ensures) in
+    other_end a.s.now a.at a.end c.in_ok-x.x c.in_ok-x.next c.in_ok-x.ensures c.requires.1 other

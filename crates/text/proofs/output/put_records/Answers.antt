@@ -1,29 +1,44 @@
-use mathlib.Core.Path.{◌≡◌}
-use native.Mathlib.Omega.{arith}
+use Rattle.std.proofs.Common.{◌/◌, ◌∙◌, [], ◌∷◌, sym, ap, arith, length, append-nil, length-append}
 use Rattle.text.specs.Lines.{record_lines}
-use Rattle.text.proofs.OutputLaws.{put_nothing, put_more, records_taken, records_left, records_room}
+use Rattle.text.proofs.FourLaws.{fours_begin, four_given}
+use Rattle.text.proofs.OutputLaws.{record_put, record_passed, record_room}
 use Rattle.text.proofs.output.put_records.Goals as goal
-use Rattle.text.proofs.output.put_records.Goals.{then-log-r, else-log-r}
 
-pub loop-r-init : goal.loop-r-init
+pub loop-record-init : goal.loop-record-init
 unfolding record_lines
-loop-r-init c = (omega arith, put_nothing _ _)
+loop-record-init c =
+    let made = c.chunks_exact-record-items.ensures in
+    record {
+      given = fours_begin _ _ _ c.into_iter-record-iterator.ensures.into_iter_gives made.size made.rest;
+      wrote = sym (append-nil c.args.out.now.items);
+    }
 
-pub put_record-at-requires : goal.put_record-at-requires
-put_record-at-requires c =
-    let l = c.loop-r in
-    (omega (arith, c.requires.0, l.invariant.1.counted, records_room c.args.log.now c.args.place l.r c.args.records c.if-log-r.true (omega arith)), omega arith)
+pub put_line-requires : goal.put_line-requires
+put_line-requires c =
+    let a = c.args in
+    let l = c.loop-record in
+    let next = four_given a.log.now (length l.yielded) l.record-iterator c.next.new.self c.in-Some.record l.invariant.given c.in-Some.ensures.steps in
+    let put = ap length l.invariant.wrote ∙ length-append a.out.now.items (record_lines a.log.now a.place (length l.yielded)) in
+    omega (arith, c.requires, put, record_room a.log.now c.in-Some.record.now a.place (length l.yielded) (length a.log.now / 4) next.0 c.if-record-place.true (omega (arith, next.1.within)))
 
-pub loop-r-preserved : goal.loop-r-preserved
-loop-r-preserved c = (
-  omega arith,
-  elim c.if-log-r.branch [
-    | then-log-r w ↦ rw (w.out-is, w.at-is, records_taken _ _ _ w.if-log-r.true) (put_more _ _ _ _ _ _ _ _ c.loop-r.invariant.1 w.put_record-at.ensures)
-    | else-log-r w ↦ rw (w.out-is, w.at-is, records_left _ _ _ w.if-log-r.false) c.loop-r.invariant.1
-  ],
-)
+pub loop-record-preserved-then-record-place : goal.loop-record-preserved-then-record-place
+loop-record-preserved-then-record-place c =
+    let a = c.args in
+    let l = c.loop-record in
+    let next = four_given a.log.now (length l.yielded) l.record-iterator c.next.new.self c.in-Some.record l.invariant.given c.in-Some.ensures.steps in
+    let more = length-append l.yielded (c.in-Some.record ∷ []) in
+    record {
+      given = rw more next.1;
+      wrote = rw more (c.put_line.ensures ∙ rw l.invariant.wrote (record_put a.log.now c.in-Some.record.now a.out.now.items a.place (length l.yielded) next.0 c.if-record-place.true));
+    }
 
-pub returns : goal.returns
-returns c =
-    let e : c.loop-r.r ≡ c.args.records = omega arith in
-    rw (← e) c.loop-r.invariant.1
+pub loop-record-preserved : goal.loop-record-preserved
+loop-record-preserved c =
+    let a = c.args in
+    let l = c.loop-record in
+    let next = four_given a.log.now (length l.yielded) l.record-iterator c.next.new.self c.in-Some.record l.invariant.given c.in-Some.ensures.steps in
+    let more = length-append l.yielded (c.in-Some.record ∷ []) in
+    record {
+      given = rw more next.1;
+      wrote = rw (more, ← record_passed a.log.now c.in-Some.record.now a.place (length l.yielded) next.0 c.if-record-place.false) l.invariant.wrote;
+    }

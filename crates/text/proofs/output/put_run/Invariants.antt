@@ -1,11 +1,14 @@
--- After i calls the lines are those of the first i.
-use Prim.Native.Nat.{◌-◌, ◌≤◌}
+-- The lines so far are those of the calls so far, and the next place and the next answer are the next call's.
+use Rattle.std.proofs.Common.{◌≡◌, length}
+use Rattle.std.specs.Iterator.Adapters.{zip_first, zip_second}
 use Rattle.text.specs.Lines.{run_lines}
-use Rattle.text.specs.Parts.{Put}
+use Rattle.text.proofs.FourLaws.{FoursGiven}
 use Rattle.text.proofs.output.put_run.Given as goal
 
-abbrev pub invariant-loop-i : goal.invariant-loop-i
-invariant-loop-i l = (l.i ≤ l.n) × Put (run_lines l.answers l.log l.records l.i) l.initial.out 0 l.out l.at
-
-abbrev pub decreases-loop-i : goal.decreases-loop-i
-decreases-loop-i l = l.n - l.i
+abbrev pub invariant-loop-place : goal.invariant-loop-place
+invariant-loop-place l = record {
+  counted : (zip_first l.place-iterator).start ≡ length l.yielded;
+  last : (zip_first l.place-iterator).end ≡ l.n;
+  given : FoursGiven l.answers (length l.yielded) (zip_second l.place-iterator);
+  wrote : l.out.items ≡ run_lines l.answers l.log l.records (length l.yielded);
+}

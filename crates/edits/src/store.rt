@@ -1,0 +1,35 @@
+// The four lent tables of a store, which go together: to change, and to look at.
+ghost use Rattle.std.specs.Prelude.{◌≡◌};
+ghost use Rattle.edits.specs.Store.{SameWords};
+
+// The tables, to change. They are lent, so that a function that takes them leaves them the lender's.
+#[derive(Drop)]
+pub struct Tables<'a> {
+    pub slots: &'a mut [u32],
+    pub links: &'a mut [u32],
+    pub owners: &'a mut [u32],
+    pub heads: &'a mut [u32],
+}
+
+// The tables, to look at.
+#[derive(Clone, Copy)]
+pub struct View<'a> {
+    pub slots: &'a [u32],
+    pub links: &'a [u32],
+    pub owners: &'a [u32],
+    pub heads: &'a [u32],
+}
+
+impl Tables<'_> {
+    // The tables as they stand.
+    pub fn view(&self) -> View<'_>
+        ensures { SameWords self.now result }
+    {
+        View {
+            slots: self.slots,
+            links: self.links,
+            owners: self.owners,
+            heads: self.heads,
+        }
+    }
+}
