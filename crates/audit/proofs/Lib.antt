@@ -3,6 +3,7 @@ pub mod DecideLaws
 pub mod CountLaws
 pub mod PortLaws
 pub mod ChainSound
+pub mod ClaimLaws
 pub mod TallyLaws
 pub mod HeldLaws
 pub mod FreeLaws

@@ -5,22 +5,21 @@ ghost use Rattle.audit.specs.Decides.{Decides};
 ghost use Rattle.audit.specs.Parts.{LinkHolds, Walk, FreeChainHolds};
 
 use crate::slots;
+use edits::below::Slots;
 use slabs::counters::Counters;
 use slabs::node_entry::WIDTH;
 
 // Whether a free slot below the mark stands here whose previous is the slot before it.
-fn link_holds(slots: &[u32], mark: u32, slot: u32, before: u32) -> bool
-    requires { width * mark ≤ length slots.now }
-    ensures { Decides result (LinkHolds slots.now mark (suc slot) before) }
+fn link_holds(slots: Slots<'_>, slot: u32, before: u32) -> bool
+    ensures { Decides result (LinkHolds slots.entry.words.now slots.entry.mark (suc slot) before) }
 {
     let base = WIDTH * slot as usize;
-    slot < mark && slots[base + 1] == 0 && slots[base] == before
+    slot < slots.mark && slots.words[base + 1] == 0 && slots.words[base] == before
 }
 
 // Walks the chain from the head over exactly n slots.
-fn chain_is(slots: &[u32], mark: u32, head: u32, n: u32) -> bool
-    requires { width * mark ≤ length slots.now }
-    ensures { Decides result (Walk slots.now mark head 0 n) }
+fn chain_is(slots: Slots<'_>, head: u32, n: u32) -> bool
+    ensures { Decides result (Walk slots.entry.words.now slots.entry.mark head 0 n) }
 {
     let mut word = head;
     let mut before = 0;
@@ -28,11 +27,11 @@ fn chain_is(slots: &[u32], mark: u32, head: u32, n: u32) -> bool
         let Some(slot) = word.checked_sub(1) else {
             return false;
         };
-        if !link_holds(slots, mark, slot, before) {
+        if !link_holds(slots, slot, before) {
             return false;
         }
         before = word;
-        word = slots[WIDTH * slot as usize + 2];
+        word = slots.words[WIDTH * slot as usize + 2];
     }
     word == 0
 }
@@ -42,12 +41,10 @@ pub fn free_chain_holds(slots: &[u32], counters: Counters) -> bool
     requires { width * counters.nodemark ≤ length slots.now }
     ensures { Decides result (FreeChainHolds slots.now counters) }
 {
-    let live = slots::live_slots(slots, counters.nodemark);
-    counters.nodes == live
-        && chain_is(
-            slots,
-            counters.nodemark,
-            counters.freeslot,
-            counters.nodemark - live,
-        )
+    let below = Slots {
+        words: slots,
+        mark: counters.nodemark,
+    };
+    let live = slots::live_slots(below);
+    counters.nodes == live && chain_is(below, counters.freeslot, counters.nodemark - live)
 }

@@ -12,6 +12,7 @@ mod ports;
 mod slots;
 mod words;
 
+use edits::below::Slots;
 use edits::store::View;
 use slabs::counters::Counters;
 
@@ -34,7 +35,13 @@ fn holds(view: View<'_>, scratch: &mut [u32], counters: Counters) -> bool
     ensures { Decides result (Sound (store_seen view.entry counters)) }
 {
     marks_hold(view, counters)
-        && slots::slots_hold(view.slots, view.heads.len(), counters.nodemark)
+        && slots::slots_hold(
+            Slots {
+                words: view.slots,
+                mark: counters.nodemark,
+            },
+            view.heads.len(),
+        )
         && chain::free_chain_holds(view.slots, counters)
         && ports::tiled(view, scratch, counters)
         && ports::ports_hold(view.links, view.owners, counters)

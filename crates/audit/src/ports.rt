@@ -7,6 +7,7 @@ ghost use Rattle.audit.specs.Decides.{Decides};
 ghost use Rattle.audit.specs.Parts.{CanClaim, SlabClaimed, HeldWords, HeldSlab, FreeSlab, SlotsHold, BlankFrom, HeldClaimed, Tally, ChainClaimed, FreeClaimed, TiledHolds, MateHolds, PortsHold};
 
 use crate::words;
+use edits::below::Ports;
 use edits::store::View;
 use slabs::counters::Counters;
 use slabs::node_entry::{NodeEntry, NodeMeta, read_slot};
@@ -158,14 +159,16 @@ fn faces_away(owner: u32, facing: Direction) -> bool
 }
 
 // Rule 6 for one live port: its link word is 0 or names its mate.
-fn mate_holds(links: &[u32], owners: &[u32], mark: u32, port: u32, direction: Direction) -> bool
-    requires { (mark ≤ length links.now) × (mark ≤ length owners.now) × (mark ≤ 1048576) × (port < mark) × Live owners.now port × (direction_word direction ≡ direction_of (get_or owners.now port 0)) × BlankFrom owners.now mark }
-    ensures { Decides result (MateHolds links.now owners.now port) }
+fn mate_holds(ports: Ports<'_>, port: u32, direction: Direction) -> bool
+    requires { (ports.mark ≤ 1048576) × (port < ports.mark) × Live ports.owners.now port × (direction_word direction ≡ direction_of (get_or ports.owners.now port 0)) × BlankFrom ports.owners.now ports.mark }
+    ensures { Decides result (MateHolds ports.entry.links.now ports.entry.owners.now port) }
 {
-    let Some(mate) = links[port as usize].checked_sub(1) else {
+    let Some(mate) = ports.links[port as usize].checked_sub(1) else {
         return true;
     };
-    mate < mark && faces_away(owners[mate as usize], direction) && links[mate as usize] == port + 1
+    mate < ports.mark
+        && faces_away(ports.owners[mate as usize], direction)
+        && ports.links[mate as usize] == port + 1
 }
 
 // Rule 6 for the live ports, and rule 7's counts of ports and links.
@@ -173,11 +176,16 @@ pub fn ports_hold(links: &[u32], owners: &[u32], counters: Counters) -> bool
     requires { (counters.portmark ≤ length links.now) × (counters.portmark ≤ length owners.now) × (counters.portmark ≤ 1048576) × BlankFrom owners.now counters.portmark }
     ensures { Decides result (PortsHold links.now owners.now counters) }
 {
+    let below = Ports {
+        owners,
+        links,
+        mark: counters.portmark,
+    };
     let mut ports = 0;
     let mut pairs = 0;
     for port in 0..counters.portmark {
         if let Some(meta) = port_entry(owners[port as usize]) {
-            if !mate_holds(links, owners, counters.portmark, port, meta.direction) {
+            if !mate_holds(below, port, meta.direction) {
                 return false;
             }
             ports += 1;

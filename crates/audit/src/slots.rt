@@ -6,6 +6,7 @@ ghost use Rattle.sound.specs.Sound.{LiveSlot, SlotSays};
 ghost use Rattle.audit.specs.Decides.{Decides};
 ghost use Rattle.audit.specs.Parts.{SlotsHold};
 
+use edits::below::Slots;
 use edits::steps::MOST;
 use slabs::node_entry::{NodeEntry, NodeMeta, WIDTH};
 
@@ -32,19 +33,17 @@ fn slot_holds(slots: &[u32], heads: usize, slot: usize) -> bool
 }
 
 // Rule 2 for every slot below the mark.
-pub fn slots_hold(slots: &[u32], heads: usize, mark: u32) -> bool
-    requires { width * mark ≤ length slots.now }
-    ensures { Decides result (SlotsHold slots.now heads mark) }
+pub fn slots_hold(slots: Slots<'_>, heads: usize) -> bool
+    ensures { Decides result (SlotsHold slots.entry.words.now heads slots.entry.mark) }
 {
-    (0..mark as usize).all(|slot| slot_holds(slots, heads, slot))
+    (0..slots.mark as usize).all(|slot| slot_holds(slots.words, heads, slot))
 }
 
 // How many slots below the mark are live.
-pub fn live_slots(slots: &[u32], mark: u32) -> u32
-    requires { width * mark ≤ length slots.now }
-    ensures { result ≡ live_slots slots.now mark }
+pub fn live_slots(slots: Slots<'_>) -> u32
+    ensures { result ≡ live_slots slots.entry.words.now slots.entry.mark }
 {
-    (0..mark)
-        .filter(|slot| slots[WIDTH * *slot as usize + 1] != 0)
+    (0..slots.mark)
+        .filter(|slot| slots.words[WIDTH * *slot as usize + 1] != 0)
         .count() as u32
 }

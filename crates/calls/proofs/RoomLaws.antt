@@ -1,6 +1,6 @@
 -- What is known of a compaction that is answered by done: its records have room in the log, and what it leaves.
 use Prim.Native.Nat.{ℕ, ◌≤◌}
-use mathlib.Core.Path.{◌≡◌, refl, sym, ◌∙◌}
+use mathlib.Core.Path.{◌≡◌, refl, sym}
 use mathlib.Core.List.{List}
 use mathlib.Core.Bool.{Bool, true, false, false≢true}
 use native.Mathlib.Omega.{arith}
@@ -10,6 +10,7 @@ use borrow.Author.Tests.{ltb-false}
 use Rattle.slabs.specs.Choice.{pick}
 use Rattle.edits.specs.Store.{Store}
 use Rattle.edits.specs.Answer.{is_done}
+use Rattle.edits.specs.Counts.{live_slots, live_ports}
 use Rattle.edits.specs.Fit.{Fit}
 use Rattle.edits.specs.declared.answer.Refusal.TheVariants.{LogFull}
 use Rattle.edits.specs.Answer.{done}
@@ -48,10 +49,10 @@ can_pack_nodes {s} log to fit fits d =
       recorded = rw fit.true_nodes at (compact_room log to s.counters.nodes fits d);
     }
 
--- A compaction writes as many records as the store counts nodes,
-pub nodes_recorded : {s : Store} → Fit s → s.counters.nodes ≡ length (node_records s.slots s.counters.nodemark)
-nodes_recorded {s} fit = fit.true_nodes ∙ sym (node_records-length s.slots s.counters.nodemark)
+-- A compaction writes a record of each live slot,
+pub nodes_written : (slots : List ℕ) (mark : ℕ) → live_slots slots mark ≡ length (node_records slots mark)
+nodes_written slots mark = sym (node_records-length slots mark)
 
--- or ports.
-pub ports_recorded : {s : Store} → Fit s → s.counters.ports ≡ length (port_records s.owners s.counters.portmark)
-ports_recorded {s} fit = fit.true_ports ∙ sym (port_records-length s.owners s.counters.portmark)
+-- or port.
+pub ports_written : (owners : List ℕ) (mark : ℕ) → live_ports owners mark ≡ length (port_records owners mark)
+ports_written owners mark = sym (port_records-length owners mark)

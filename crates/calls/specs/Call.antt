@@ -10,7 +10,7 @@ use Rattle.edits.specs.Answer.{is_done}
 use Rattle.edits.specs.Questions.{ask_node, ask_port, ask_offset, ask_link, ask_counts}
 use Rattle.edits.specs.Linking.{link_answer, joined, unlink_answer}
 use Rattle.edits.specs.Steps.{add_answer, added, remove_answer, removed}
-use Rattle.renumber.specs.Records.{Rec, logged, record_width}
+use Rattle.renumber.specs.Records.{Rec, logged, later, record_width}
 use Rattle.renumber.specs.Resize.{resize_answer, is_idle, resized, resize_records}
 use Rattle.renumber.specs.Compact.{compact_answer, nodes_compacted, node_records, ports_compacted, port_records}
 use Rattle.edits.specs.Clear.{cleared}
@@ -25,6 +25,7 @@ use Rattle.calls.specs.declared.Outcome.{Outcome}
 use Rattle.calls.specs.declared.Done.{Done}
 use Rattle.edits.specs.declared.store.Tables.{Tables}
 use Rattle.renumber.specs.declared.log.LogPlace.{LogPlace}
+use Rattle.renumber.specs.declared.log.Log.{Log}
 use Rattle.renumber.specs.declared.resize.Change.{Change}
 
 pub record After : Type 0 where
@@ -109,42 +110,38 @@ call_of s left call =
 abbrev pub remaining : List ℕ → LogPlace → ℕ
 remaining log to = length log / record_width - to.at
 
--- What a call leaves, in every lent word: the answer, the counters and the tables of its definition, and the log with its records.
-pub record Became (after : After) (log : List ℕ) (to : LogPlace) (slots links owners heads log' : List ℕ) (r : Outcome) : Type 0 where
+-- What a call leaves, in every lent word: the answer, the counters and the tables of its definition, and the log with its records, which
+-- the next call's records follow.
+pub record Became (after : After) (log : List ℕ) (to : LogPlace) (slots links owners heads log' : List ℕ) (to' : LogPlace) (r : Outcome) : Type 0 where
   pub answer : r.answer ≡ after.answer
   pub counters : r.counters ≡ after.store.counters
-  pub next : r.to.at ≡ to.at + length after.records
-  pub place : r.to.place ≡ to.place
+  pub next : to'.at ≡ to.at + length after.records
+  pub place : to'.place ≡ to.place
   pub slots_after : slots ≡ after.store.slots
   pub links_after : links ≡ after.store.links
   pub owners_after : owners ≡ after.store.owners
   pub heads_after : heads ≡ after.store.heads
   pub log_after : log' ≡ logged log to.at to.place after.records
 
--- the same of tables that are lent together
-abbrev pub BecameIn : After → List ℕ → LogPlace → Tables → List ℕ → Outcome → Type 0
-BecameIn after log to t log' r = Became after log to t.slots.now t.links.now t.owners.now t.heads.now log' r
+-- the same of tables that are lent together, and of a log with its place
+abbrev pub BecameIn : After → Log → Tables → Log → Outcome → Type 0
+BecameIn after log t log' r =
+    Became after log.words.now log.to t.slots.now t.links.now t.owners.now t.heads.now log'.words.now log'.to r
 
 -- What the part of one call hands back: the answer,
 abbrev pub answer_of : Result Done Refusal → Answer
 answer_of (Ok d) = Ok d.values
 answer_of (Err refusal) = Err refusal
 
--- the counters, which a refusal leaves,
+-- and the counters, which a refusal leaves
 abbrev pub counters_of : Result Done Refusal → Counters → Counters
 counters_of (Ok d) c = d.counters
 counters_of (Err refusal) c = c
-
--- and how many records it has written.
-abbrev pub records_of : Result Done Refusal → ℕ
-records_of (Ok d) = d.records
-records_of (Err refusal) = 0
 
 -- What it leaves in the tables, where c were the counters.
 pub record Left (after : After) (c : Counters) (slots links owners heads : List ℕ) (r : Result Done Refusal) : Type 0 where
   pub answer : answer_of r ≡ after.answer
   pub counters : counters_of r c ≡ after.store.counters
-  pub recorded : records_of r ≡ length after.records
   pub slots_after : slots ≡ after.store.slots
   pub links_after : links ≡ after.store.links
   pub owners_after : owners ≡ after.store.owners
@@ -153,9 +150,14 @@ pub record Left (after : After) (c : Counters) (slots links owners heads : List 
 abbrev pub LeftIn : After → Counters → Tables → Result Done Refusal → Type 0
 LeftIn after c t r = Left after c t.slots.now t.links.now t.owners.now t.heads.now r
 
+-- What it leaves in the log: these records, and the place behind them.
+pub record Logged (before after : Log) (rs : List Rec) : Type 0 where
+  pub words : after.words.now ≡ logged before.words.now before.to.at before.to.place rs
+  pub next : after.to ≡ later before.to (length rs)
+
 -- what a question hands back
 abbrev pub asked : Counters → Answer → Result Done Refusal
-asked c (Ok values) = Ok (record { values = values; counters = c; records = 0 })
+asked c (Ok values) = Ok (record { values = values; counters = c })
 asked c (Err refusal) = Err refusal
 
 abbrev pub question_call : Store → Call → Result Done Refusal

@@ -4,15 +4,15 @@
 ghost use Rattle.std.specs.Prelude.{◌≡◌};
 ghost use Rattle.edits.specs.Store.{store_in, store_seen, SameMemory};
 ghost use Rattle.edits.specs.Fit.{Fit};
-ghost use Rattle.renumber.specs.Records.{logged};
+ghost use Rattle.renumber.specs.Records.{SameLog};
 ghost use Rattle.renumber.specs.Room.{LogFits};
-ghost use Rattle.calls.specs.Call.{remaining, BecameIn, LeftIn, clear_call, add_call, remove_call, resize_call, link_call, unlink_call, swap_call, compact_nodes_call, compact_ports_call, question, question_call, call_of};
+ghost use Rattle.calls.specs.Call.{remaining, BecameIn, LeftIn, Logged, clear_call, add_call, remove_call, resize_call, link_call, unlink_call, swap_call, compact_nodes_call, compact_ports_call, question, question_call, call_of};
 
 use edits::answer::{Answer, Refusal};
-use edits::questions::live_node;
+use edits::below::{Ports, Slots};
 use edits::store::{Tables, View};
 use edits::{clear, linking, questions, steps, swap};
-use renumber::log::LogPlace;
+use renumber::log::Log;
 use renumber::resize::Change;
 use renumber::{compact, resize};
 use slabs::counters::Counters;
@@ -26,28 +26,26 @@ pub struct Call {
     pub c: u32,
 }
 
-// What a call leaves: its answer, the counters, and where the next record goes.
+// What a call leaves: its answer and the counters.
 #[derive(Clone, Copy)]
 pub struct Outcome {
     pub answer: Answer,
     pub counters: Counters,
-    pub to: LogPlace,
 }
 
-// What a call that is done leaves: its three values, the counters, and how many records it wrote.
+// What a call that is done leaves: its three values and the counters.
 #[derive(Clone, Copy)]
 pub struct Done {
     pub values: (u32, u32, u32),
     pub counters: Counters,
-    pub records: u32,
 }
 
 // The records that remain in the log.
-fn left(log: &[u32], to: LogPlace) -> usize
-    requires { LogFits log.now to }
-    ensures { result ≡ remaining log.now to }
+fn left(log: &Log<'_>) -> usize
+    requires { LogFits log.now.words.now log.now.to }
+    ensures { result ≡ remaining log.now.words.now log.now.to }
 {
-    log.len() / renumber::log::RECORD - to.at
+    log.words.len() / renumber::log::RECORD - log.to.at
 }
 
 // Call 0.
@@ -58,7 +56,6 @@ fn call_clear(tables: &mut Tables<'_>, counters: Counters) -> Done
     Done {
         values: (0, 0, 0),
         counters: clear::clear(tables, counters),
-        records: 0,
     }
 }
 
@@ -85,7 +82,6 @@ fn call_add(
     Ok(Done {
         values,
         counters: steps::add(tables, counters, inlets, outlets),
-        records: 0,
     })
 }
 
@@ -96,30 +92,32 @@ fn call_remove(tables: &mut Tables<'_>, counters: Counters, node: u32) -> Result
     ensures call { LeftIn (remove_call (store_in tables.old counters) node) counters tables.new result }
 {
     let view = tables.view();
-    let meta = live_node(view.slots, counters.nodemark, node).ok_or(Refusal::NoNode(node))?;
+    let slots = Slots {
+        words: view.slots,
+        mark: counters.nodemark,
+    };
+    let meta = slots.live(node).ok_or(Refusal::NoNode(node))?;
     Ok(Done {
         values: (0, 0, 0),
         counters: steps::remove(tables, counters, node, meta),
-        records: 0,
     })
 }
 
 // Call 3. A step that has these counts already stays as it is.
 fn call_resize(
     tables: &mut Tables<'_>,
-    log: &mut [u32],
+    log: &mut Log<'_>,
     counters: Counters,
-    to: LogPlace,
     node: u32,
     inlets: u32,
     outlets: u32,
 ) -> Result<Done, Refusal>
-    requires { Fit (store_in tables.old counters) × LogFits log.old to }
-    ensures memory { SameMemory tables.old tables.new }
-    ensures call { LeftIn (resize_call (store_in tables.old counters) (remaining log.old to) node inlets outlets) counters tables.new result }
-    ensures log { log.new ≡ logged log.old to.at to.place (resize_call (store_in tables.old counters) (remaining log.old to) node inlets outlets).records }
+    requires { Fit (store_in tables.old counters) × LogFits log.old.words.now log.old.to }
+    ensures memory { SameMemory tables.old tables.new × SameLog log.old log.new }
+    ensures call { LeftIn (resize_call (store_in tables.old counters) (remaining log.old.words.now log.old.to) node inlets outlets) counters tables.new result }
+    ensures log { Logged log.old log.new (resize_call (store_in tables.old counters) (remaining log.old.words.now log.old.to) node inlets outlets).records }
 {
-    let room = left(log, to);
+    let room = left(log);
     let view = tables.view();
     let values = resize::resize_answer(
         view.slots,
@@ -131,7 +129,11 @@ fn call_resize(
         inlets,
         outlets,
     )?;
-    let meta = live_node(view.slots, counters.nodemark, node).ok_or(Refusal::NoNode(node))?;
+    let slots = Slots {
+        words: view.slots,
+        mark: counters.nodemark,
+    };
+    let meta = slots.live(node).ok_or(Refusal::NoNode(node))?;
     let change = Change {
         node,
         meta,
@@ -139,16 +141,11 @@ fn call_resize(
         outlets,
     };
     if change.is_idle() {
-        return Ok(Done {
-            values,
-            counters,
-            records: 0,
-        });
+        return Ok(Done { values, counters });
     }
     Ok(Done {
         values,
-        counters: resize::resize(tables, log, counters, to, change),
-        records: values.0,
+        counters: resize::resize(tables, log, counters, change),
     })
 }
 
@@ -159,12 +156,16 @@ fn call_link(tables: &mut Tables<'_>, counters: Counters, a: u32, b: u32) -> Res
     ensures call { LeftIn (link_call (store_in tables.old counters) a b) counters tables.new result }
 {
     let view = tables.view();
-    let values = linking::link_answer(view.owners, view.links, counters.portmark, a, b)?;
+    let ports = Ports {
+        owners: view.owners,
+        links: view.links,
+        mark: counters.portmark,
+    };
+    let values = linking::link_answer(ports, a, b)?;
     linking::join(tables.links, a, b);
     Ok(Done {
         values,
         counters: counters.link_counted(),
-        records: 0,
     })
 }
 
@@ -175,12 +176,16 @@ fn call_unlink(tables: &mut Tables<'_>, counters: Counters, port: u32) -> Result
     ensures call { LeftIn (unlink_call (store_in tables.old counters) port) counters tables.new result }
 {
     let view = tables.view();
-    let values = linking::unlink_answer(view.owners, view.links, counters.portmark, port)?;
+    let ports = Ports {
+        owners: view.owners,
+        links: view.links,
+        mark: counters.portmark,
+    };
+    let values = linking::unlink_answer(ports, port)?;
     let wires = slabs::links::cut(tables.links, port as usize);
     Ok(Done {
         values,
         counters: counters.links_uncounted(wires),
-        records: 0,
     })
 }
 
@@ -194,47 +199,42 @@ fn call_swap(tables: &mut Tables<'_>, counters: Counters, a: u32, b: u32) -> Res
     Ok(Done {
         values,
         counters: swap::swap(tables.slots, tables.owners, counters, a, b),
-        records: 0,
     })
 }
 
 // Call 7.
 fn call_compact_nodes(
     tables: &mut Tables<'_>,
-    log: &mut [u32],
+    log: &mut Log<'_>,
     counters: Counters,
-    to: LogPlace,
 ) -> Result<Done, Refusal>
-    requires { Fit (store_in tables.old counters) × LogFits log.old to }
-    ensures memory { SameMemory tables.old tables.new }
-    ensures call { LeftIn (compact_nodes_call (store_in tables.old counters) (remaining log.old to)) counters tables.new result }
-    ensures log { log.new ≡ logged log.old to.at to.place (compact_nodes_call (store_in tables.old counters) (remaining log.old to)).records }
+    requires { Fit (store_in tables.old counters) × LogFits log.old.words.now log.old.to }
+    ensures memory { SameMemory tables.old tables.new × SameLog log.old log.new }
+    ensures call { LeftIn (compact_nodes_call (store_in tables.old counters) (remaining log.old.words.now log.old.to)) counters tables.new result }
+    ensures log { Logged log.old log.new (compact_nodes_call (store_in tables.old counters) (remaining log.old.words.now log.old.to)).records }
 {
-    let values = compact::compact_answer(counters.nodes, left(log, to))?;
+    let values = compact::compact_answer(counters.nodes, left(log))?;
     Ok(Done {
         values,
-        counters: compact::compact_nodes(tables.slots, tables.owners, log, counters, to),
-        records: counters.nodes,
+        counters: compact::compact_nodes(tables.slots, tables.owners, log, counters),
     })
 }
 
 // Call 8.
 fn call_compact_ports(
     tables: &mut Tables<'_>,
-    log: &mut [u32],
+    log: &mut Log<'_>,
     counters: Counters,
-    to: LogPlace,
 ) -> Result<Done, Refusal>
-    requires { Fit (store_in tables.old counters) × LogFits log.old to }
-    ensures memory { SameMemory tables.old tables.new }
-    ensures call { LeftIn (compact_ports_call (store_in tables.old counters) (remaining log.old to)) counters tables.new result }
-    ensures log { log.new ≡ logged log.old to.at to.place (compact_ports_call (store_in tables.old counters) (remaining log.old to)).records }
+    requires { Fit (store_in tables.old counters) × LogFits log.old.words.now log.old.to }
+    ensures memory { SameMemory tables.old tables.new × SameLog log.old log.new }
+    ensures call { LeftIn (compact_ports_call (store_in tables.old counters) (remaining log.old.words.now log.old.to)) counters tables.new result }
+    ensures log { Logged log.old log.new (compact_ports_call (store_in tables.old counters) (remaining log.old.words.now log.old.to)).records }
 {
-    let values = compact::compact_answer(counters.ports, left(log, to))?;
+    let values = compact::compact_answer(counters.ports, left(log))?;
     Ok(Done {
         values,
-        counters: compact::compact_ports(tables, log, counters, to),
-        records: counters.ports,
+        counters: compact::compact_ports(tables, log, counters),
     })
 }
 
@@ -243,11 +243,20 @@ fn ask(view: View<'_>, counters: Counters, call: Call) -> Answer
     requires { Fit (store_seen view counters) }
     ensures { result ≡ question (store_seen view.entry counters) call }
 {
+    let slots = Slots {
+        words: view.slots,
+        mark: counters.nodemark,
+    };
+    let ports = Ports {
+        owners: view.owners,
+        links: view.links,
+        mark: counters.portmark,
+    };
     match call.n {
-        9 => questions::ask_node(view.slots, counters.nodemark, call.a),
+        9 => questions::ask_node(slots, call.a),
         10 => questions::ask_port(view.slots, view.owners, counters, call.a),
-        11 => questions::ask_offset(view.slots, counters.nodemark, call.a, call.b, call.c),
-        12 => questions::ask_link(view.owners, view.links, counters.portmark, call.a),
+        11 => questions::ask_offset(slots, call.a, call.b, call.c),
+        12 => questions::ask_link(ports, call.a),
         13 => questions::ask_counts(counters),
         _ => Err(Refusal::NoSuchCall),
     }
@@ -259,62 +268,55 @@ fn call_question(view: View<'_>, counters: Counters, call: Call) -> Result<Done,
     ensures { result ≡ question_call (store_seen view.entry counters) call }
 {
     let values = ask(view, counters, call)?;
-    Ok(Done {
-        values,
-        counters,
-        records: 0,
-    })
+    Ok(Done { values, counters })
 }
 
-// Every call. The one place where a call's number is read: names for the numbers would want a second match of the same fourteen.
+// Every call. Each number has one arm: 0 to 8 here, the questions' in `ask`. Names for the numbers would want a second match of the
+// same fourteen.
 fn answer_call(
     tables: &mut Tables<'_>,
-    log: &mut [u32],
+    log: &mut Log<'_>,
     counters: Counters,
-    to: LogPlace,
     call: Call,
 ) -> Result<Done, Refusal>
-    requires { Fit (store_in tables.old counters) × LogFits log.old to }
-    ensures memory { SameMemory tables.old tables.new }
-    ensures call { LeftIn (call_of (store_in tables.old counters) (remaining log.old to) call) counters tables.new result }
-    ensures log { log.new ≡ logged log.old to.at to.place (call_of (store_in tables.old counters) (remaining log.old to) call).records }
+    requires { Fit (store_in tables.old counters) × LogFits log.old.words.now log.old.to }
+    ensures memory { SameMemory tables.old tables.new × SameLog log.old log.new }
+    ensures call { LeftIn (call_of (store_in tables.old counters) (remaining log.old.words.now log.old.to) call) counters tables.new result }
+    ensures log { Logged log.old log.new (call_of (store_in tables.old counters) (remaining log.old.words.now log.old.to) call).records }
 {
     match call.n {
         0 => Ok(call_clear(tables, counters)),
         1 => call_add(tables, counters, call.a, call.b),
         2 => call_remove(tables, counters, call.a),
-        3 => call_resize(tables, log, counters, to, call.a, call.b, call.c),
+        3 => call_resize(tables, log, counters, call.a, call.b, call.c),
         4 => call_link(tables, counters, call.a, call.b),
         5 => call_unlink(tables, counters, call.a),
         6 => call_swap(tables, counters, call.a, call.b),
-        7 => call_compact_nodes(tables, log, counters, to),
-        8 => call_compact_ports(tables, log, counters, to),
+        7 => call_compact_nodes(tables, log, counters),
+        8 => call_compact_ports(tables, log, counters),
         _ => call_question(tables.view(), counters, call),
     }
 }
 
-// Answers a call, and says where the next one's records go.
+// Answers a call. The log then stands where the next one's records go.
 pub fn dispatch(
     tables: &mut Tables<'_>,
-    log: &mut [u32],
+    log: &mut Log<'_>,
     counters: Counters,
-    to: LogPlace,
     call: Call,
 ) -> Outcome
-    requires { Fit (store_in tables.old counters) × LogFits log.old to }
-    ensures memory { SameMemory tables.old tables.new }
-    ensures call { BecameIn (call_of (store_in tables.old counters) (remaining log.old to) call) log.old to tables.new log.new result }
+    requires { Fit (store_in tables.old counters) × LogFits log.old.words.now log.old.to }
+    ensures memory { SameMemory tables.old tables.new × SameLog log.old log.new }
+    ensures call { BecameIn (call_of (store_in tables.old counters) (remaining log.old.words.now log.old.to) call) log.old tables.new log.new result }
 {
-    match answer_call(tables, log, counters, to, call) {
+    match answer_call(tables, log, counters, call) {
         Ok(done) => Outcome {
             answer: Ok(done.values),
             counters: done.counters,
-            to: to.past(done.records),
         },
         Err(refusal) => Outcome {
             answer: Err(refusal),
             counters,
-            to,
         },
     }
 }

@@ -13,10 +13,10 @@ use Rattle.slabs.specs.PortEntry.{port_entry}
 use Rattle.slabs.specs.declared.node_entry.NodeMeta.{NodeMeta}
 use Rattle.slabs.specs.declared.node_entry.NodeEntry.TheVariants as node
 use Rattle.slabs.specs.declared.port_entry.PortMeta.{PortMeta}
-use Rattle.std.specs.Prelude.{Option, Some, None, Result, Ok, Err}
+use Rattle.std.specs.Prelude.{Some, None, Result, Ok, Err}
 use Rattle.std.specs.Option.{ok_or}
 use Rattle.slabs.specs.declared.node_entry.NodeEntry.{NodeEntry}
-use Rattle.edits.specs.Store.{node_at, port_at, on_node, on_port, on_link}
+use Rattle.edits.specs.Store.{node_at, port_at, on_node}
 
 -- What is found, and is not what is found at or above the mark, is below the mark.
 below : {A : Type 0} (k mark : ℕ) (here above found : A) → pick (ltb k mark) here above ≡ found → (above ≡ found → ⊥) → k < mark
@@ -50,21 +50,3 @@ live_found (node.Free previous next) r m h = grind arith
 pub live_missed : {A E : Type 0} (e : NodeEntry) (r f : E) (live : NodeMeta → Result A E) → ok_or (on_node e Some None) r ≡ Err f → Err f ≡ on_node e live (Err r)
 live_missed (node.Node n) r f live h = grind arith
 live_missed (node.Free previous next) r f live h = grind arith
-
--- The same of a port,
-pub port_found : {E : Type 0} (o : Option PortMeta) (r : E) (m : PortMeta) → ok_or o r ≡ Ok m → o ≡ Some m
-port_found (Some n) r m h = grind arith
-port_found None r m h = grind arith
-
-pub port_missed : {A E : Type 0} (o : Option PortMeta) (r f : E) (live : PortMeta → Result A E) → ok_or o r ≡ Err f → Err f ≡ on_port o live (Err r)
-port_missed (Some n) r f live h = grind arith
-port_missed None r f live h = grind arith
-
--- and of a port's partner.
-pub partner_found : {E : Type 0} (o : Option ℕ) (r : E) (q : ℕ) → ok_or o r ≡ Ok q → o ≡ Some q
-partner_found (Some n) r q h = grind arith
-partner_found None r q h = grind arith
-
-pub partner_missed : {A E : Type 0} (o : Option ℕ) (r f : E) (wired : ℕ → Result A E) → ok_or o r ≡ Err f → Err f ≡ on_link o wired (Err r)
-partner_missed (Some n) r f wired h = grind arith
-partner_missed None r f wired h = grind arith

@@ -6,6 +6,7 @@ ghost use Rattle.edits.specs.Fit.{StoreIn};
 use crate::store::Tables;
 use slabs::counters::Counters;
 
+#[tactic(auto, using(slabs::proofs::FillLaws::fill_whole), unfolding(crate::specs::Clear::cleared))]
 pub fn clear(tables: &mut Tables<'_>, counters: Counters) -> Counters
     ensures memory { SameMemory tables.old tables.new }
     ensures store { StoreIn (cleared (store_in tables.old counters)) tables.new result }

@@ -6,22 +6,24 @@ ghost use Rattle.edits.specs.FreeSlots.{set_neighbour, slot_at_hand, next_slot, 
 use slabs::counters::Counters;
 use slabs::node_entry::{NodeEntry, WIDTH};
 
-// Writes a neighbour's word of a free slot: its first is its previous, its third its next. A slot of 0 is none, and nothing is written.
-pub fn set_neighbour<const WORD: usize>(slots: &mut [u32], slot: u32, neighbour: u32)
-    requires { (width * slot ≤ length slots.old) × (WORD < width) }
-    ensures { slots.new ≡ set_neighbour WORD slots.old slot neighbour }
-{
-    if slot != 0 {
-        slots[WIDTH * (slot - 1) as usize + WORD] = neighbour;
-    }
-}
-
 // The words of a free slot that name its neighbours.
 pub const PREVIOUS: usize = 0;
 
 pub const NEXT: usize = 2;
 
+// Writes a neighbour's word of the free slot that a chain word names. A chain word is a slot plus 1, and 0 is none: then nothing is
+// written.
+pub fn set_neighbour<const WORD: usize>(slots: &mut [u32], word: u32, neighbour: u32)
+    requires { (width * word ≤ length slots.old) × (WORD < width) }
+    ensures { slots.new ≡ set_neighbour WORD slots.old word neighbour }
+{
+    if word != 0 {
+        slots[WIDTH * (word - 1) as usize + WORD] = neighbour;
+    }
+}
+
 // Whether a slot can be had.
+#[tactic(auto, unfolding(crate::specs::FreeSlots::slot_at_hand))]
 pub fn slot_at_hand(slots: &[u32], counters: Counters) -> bool
     ensures { result ≡ slot_at_hand slots.now counters }
 {
@@ -29,6 +31,7 @@ pub fn slot_at_hand(slots: &[u32], counters: Counters) -> bool
 }
 
 // The slot that an add would take: the head free slot, else the one at the mark.
+#[tactic(auto, unfolding(crate::specs::FreeSlots::next_slot))]
 pub fn next_slot(counters: Counters) -> u32
     ensures { result ≡ next_slot counters }
 {
@@ -40,6 +43,7 @@ pub fn next_slot(counters: Counters) -> u32
 }
 
 // Takes it, and gives it with the counters after it. The slot's own words are for the caller to write.
+#[tactic(auto, unfolding(crate::specs::FreeSlots::next_slot, crate::specs::FreeSlots::set_previous, crate::specs::FreeSlots::slot_taken, crate::specs::FreeSlots::taken_node_mark, crate::specs::FreeSlots::taken_free_slot))]
 pub fn take_slot(slots: &mut [u32], counters: Counters) -> (u32, Counters)
     requires { CanTakeSlot slots.old counters }
     ensures { TookSlot slots.old counters slots.new result.0 result.1 }
@@ -54,6 +58,7 @@ pub fn take_slot(slots: &mut [u32], counters: Counters) -> (u32, Counters)
 }
 
 // Makes a slot the head of the free chain.
+#[tactic(auto, unfolding(crate::specs::FreeSlots::slot_freed, crate::specs::FreeSlots::set_previous))]
 pub fn free_slot(slots: &mut [u32], counters: Counters, node: u32) -> Counters
     requires { (width * node + width ≤ length slots.old) × (width * counters.freeslot ≤ length slots.old) × (node < 65536) }
     ensures { (result ≡ slot_freed_counters counters node) × (slots.new ≡ slot_freed slots.old counters node) }

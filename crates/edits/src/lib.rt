@@ -3,6 +3,7 @@
 #![tactic(auto)]
 
 pub mod answer;
+pub mod below;
 pub mod clear;
 pub mod free_slots;
 pub mod linking;

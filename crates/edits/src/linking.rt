@@ -3,29 +3,30 @@ ghost use Rattle.std.specs.Prelude.{◌≡◌, ◌≤◌, ◌<◌, length};
 ghost use Rattle.edits.specs.Linking.{link_answer, joined, unlink_answer};
 
 use crate::answer::{Answer, Refusal};
-use crate::questions::port_at;
+use crate::below::Ports;
 use slabs::links::link_at;
 
 // What call 4 answers. Code 2 names `a` also where `b` is not live.
-pub fn link_answer(owners: &[u32], links: &[u32], mark: u32, a: u32, b: u32) -> Answer
-    requires { (mark ≤ length owners.now) × (mark ≤ length links.now) }
-    ensures { result ≡ link_answer owners.now links.now mark a b }
+#[tactic(auto, using(crate::proofs::StoreLaws::port_below), unfolding(crate::specs::Linking::link_answer))]
+pub fn link_answer(ports: Ports<'_>, a: u32, b: u32) -> Answer
+    ensures { result ≡ link_answer ports.entry.owners.now ports.entry.links.now ports.entry.mark a b }
 {
-    let here = port_at(owners, mark, a).ok_or(Refusal::NoPort(a))?;
-    let there = port_at(owners, mark, b).ok_or(Refusal::NoPort(a))?; // not b
+    let here = ports.at(a).ok_or(Refusal::NoPort(a))?;
+    let there = ports.at(b).ok_or(Refusal::NoPort(a))?; // not b
     if here.direction == there.direction {
         return Err(Refusal::SameDirection(a, b, here.direction));
     }
-    if links[a as usize] != 0 {
+    if ports.links[a as usize] != 0 {
         return Err(Refusal::AlreadyLinked(a));
     }
-    if links[b as usize] != 0 {
+    if ports.links[b as usize] != 0 {
         return Err(Refusal::AlreadyLinked(b));
     }
     Ok((a, b, 0))
 }
 
 // Makes a wire between two ports.
+#[tactic(auto, unfolding(crate::specs::Linking::joined))]
 pub fn join(links: &mut [u32], a: u32, b: u32)
     requires { (a < length links.old) × (b < length links.old) × (length links.old ≤ 1048576) }
     ensures { links.new ≡ joined links.old a b }
@@ -35,11 +36,11 @@ pub fn join(links: &mut [u32], a: u32, b: u32)
 }
 
 // What call 5 answers.
-pub fn unlink_answer(owners: &[u32], links: &[u32], mark: u32, port: u32) -> Answer
-    requires { (mark ≤ length owners.now) × (mark ≤ length links.now) }
-    ensures { result ≡ unlink_answer owners.now links.now mark port }
+#[tactic(auto, using(crate::proofs::StoreLaws::port_below), unfolding(crate::specs::Linking::unlink_answer))]
+pub fn unlink_answer(ports: Ports<'_>, port: u32) -> Answer
+    ensures { result ≡ unlink_answer ports.entry.owners.now ports.entry.links.now ports.entry.mark port }
 {
-    port_at(owners, mark, port).ok_or(Refusal::NoPort(port))?;
-    let partner = link_at(links, port as usize).ok_or(Refusal::NotLinked(port))?;
+    ports.at(port).ok_or(Refusal::NoPort(port))?;
+    let partner = link_at(ports.links, port as usize).ok_or(Refusal::NotLinked(port))?;
     Ok((partner, 0, 0))
 }

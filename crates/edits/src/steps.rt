@@ -16,6 +16,7 @@ use slabs::node_entry::{NodeEntry, NodeMeta};
 pub const MOST: u32 = 16384;
 
 // Whether a slab for so many ports can be had. None is needed for 0.
+#[tactic(auto, unfolding(crate::specs::Steps::new_slab_at_hand))]
 fn new_slab_at_hand(heads: &[u32], mark: u32, room: usize, total: u32) -> bool
     requires { total ≤ length heads.now }
     ensures { result ≡ new_slab_at_hand heads.now mark room total }
@@ -24,6 +25,7 @@ fn new_slab_at_hand(heads: &[u32], mark: u32, room: usize, total: u32) -> bool
 }
 
 // What call 1 answers. `room` is the length of the port tables.
+#[tactic(auto, unfolding(crate::specs::Steps::add_answer))]
 pub fn add_answer(
     slots: &[u32],
     room: usize,
@@ -51,6 +53,7 @@ pub fn add_answer(
 }
 
 // The slab of a new step, with its owner words: none where it has no ports.
+#[tactic(auto, unfolding(crate::specs::Steps::new_slab_at_hand, crate::specs::Steps::new_first, crate::specs::Steps::new_links, crate::specs::Steps::new_heads, crate::specs::Steps::new_mark, slabs::specs::Slab::owners_written, slabs::specs::Slab::filled))]
 fn take_ports(
     links: &mut [u32],
     owners: &mut [u32],
@@ -79,6 +82,7 @@ fn take_ports(
 }
 
 // A new step takes a slot and, where it has ports, a slab of just as many.
+#[tactic(auto, using(crate::proofs::TakeLaws::next_inside, crate::proofs::CountLaws::live_slots_le, crate::proofs::CountLaws::live_ports_le), unfolding(crate::specs::Steps::added))]
 pub fn add(tables: &mut Tables<'_>, counters: Counters, inlets: u32, outlets: u32) -> Counters
     requires { Fit (store_in tables.old counters) × CanAdd (store_in tables.old counters) inlets outlets }
     ensures memory { SameMemory tables.old tables.new }
@@ -105,6 +109,7 @@ pub fn add(tables: &mut Tables<'_>, counters: Counters, inlets: u32, outlets: u3
 }
 
 // A removed step's slot becomes the head of the free chain, and its slab is freed with all its wires.
+#[tactic(auto, unfolding(crate::specs::Steps::removed, crate::specs::Steps::removed_links, crate::specs::Steps::removed_owners, crate::specs::Steps::removed_heads, crate::specs::Steps::removed_counters))]
 pub fn remove(tables: &mut Tables<'_>, counters: Counters, node: u32, meta: NodeMeta) -> Counters
     requires { Fit (store_in tables.old counters) × (node < counters.nodemark) × (node_entry tables.old.slots.now node ≡ Node meta) }
     ensures memory { SameMemory tables.old tables.new }

@@ -2,7 +2,7 @@
 ghost use Rattle.std.specs.Prelude.{◌≡◌};
 ghost use Rattle.edits.specs.Store.{SameWords};
 
-// The tables, to change. They are lent, so that a function that takes them leaves them the lender's.
+// The tables, to change. A function that takes them leaves the same slices in them (`SameMemory`).
 #[derive(Drop)]
 pub struct Tables<'a> {
     pub slots: &'a mut [u32],

@@ -8,6 +8,7 @@ use slabs::counters::Counters;
 use slabs::node_entry::NodeEntry;
 
 // What call 6 answers.
+#[tactic(auto, unfolding(crate::specs::Swap::swap_answer))]
 pub fn swap_answer(mark: u32, a: u32, b: u32) -> Answer
     ensures { result ≡ swap_answer mark a b }
 {
@@ -69,6 +70,7 @@ fn stays_put(a: u32, b: u32, here: NodeEntry, there: NodeEntry) -> bool
 }
 
 // Exchanges two slots below the mark.
+#[tactic(auto, unfolding(crate::specs::Swap::swapped_slots, crate::specs::Swap::swapped_owners, crate::specs::Swap::swapped_counters))]
 pub fn swap(slots: &mut [u32], owners: &mut [u32], counters: Counters, a: u32, b: u32) -> Counters
     requires { CanSwap slots.old owners.old a b }
     ensures { Swapped slots.old owners.old counters a b slots.new owners.new result }

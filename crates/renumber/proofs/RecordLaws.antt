@@ -5,8 +5,9 @@ use native.Mathlib.Nat.{add-zero}
 use native.Mathlib.Numerals.{add-one}
 use lib.ListN.{length, length-set, length-append}
 use mathlib.Core.List.{List, [], ◌∷◌, ◌++◌}
-use mathlib.Core.Path.{◌≡◌, refl, ◌∙◌}
-use Rattle.renumber.specs.Records.{Rec, set_record, logged, listed}
+use mathlib.Core.Path.{◌≡◌, refl, ap, ◌∙◌}
+use Rattle.renumber.specs.Records.{Rec, set_record, logged, listed, later}
+use Rattle.renumber.specs.declared.log.LogPlace.{LogPlace}
 use Rattle.renumber.specs.Moves.{removed_records, moved_records}
 use Rattle.renumber.specs.declared.moves.Run.{Run}
 
@@ -57,6 +58,18 @@ pub logged_next : (log : List ℕ) (at place : ℕ) (f : ℕ → Rec) (n : ℕ)
     → logged log at place (listed f (n + 1)) ≡ set_record (logged log at place (listed f n)) (at + n) place (f n)
 unfolding listed
 logged_next log at place f n = rw add-one (logged_snoc log at place (listed f n) (f n) ∙ rw (listed-length f n))
+
+-- No record later is here,
+pub none_later : (to : LogPlace) → to ≡ later to 0
+none_later to = rw add-zero
+
+-- so many after so many are as many as both,
+pub later_again : (to : LogPlace) (n m : ℕ) → later (later to n) m ≡ later to (n + m)
+later_again to n m = ap (λ (at : ℕ). record { at = at; place = to.place }) (omega arith)
+
+-- and one more is the next.
+pub one_later : (to : LogPlace) (n : ℕ) → later (later to n) 1 ≡ later to (n + 1)
+one_later to n = later_again to n 1
 
 -- What a loop that records needs of the log that it has written.
 pub ruleset log_laws = (logged-length, logged_none, logged_next)

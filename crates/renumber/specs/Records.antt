@@ -1,6 +1,9 @@
 -- Records (document 01, the record's rule of the edits): place of the call, kind, old, new; and the log after they are written.
-use Rattle.std.specs.Prelude.{ℕ, suc, zero, ◌+◌, ◌*◌, List, [], ◌∷◌, ◌++◌, set}
+use Rattle.std.specs.Prelude.{ℕ, suc, zero, ◌+◌, ◌*◌, ◌≡◌, List, [], ◌∷◌, ◌++◌, set}
 use Rattle.renumber.specs.declared.log.LogPlace.{LogPlace}
+use Rattle.renumber.specs.declared.log.Log.{Log}
+use Rattle.renumber.specs.declared.log.Kind.{Kind}
+use Rattle.renumber.specs.declared.log.Kind.TheVariants.{Removed, Unwired, PortMoved, NodeMoved}
 
 -- the words of a record
 abbrev pub record_width : ℕ
@@ -29,6 +32,17 @@ logged log at place (r ∷ rs) = logged (set_record log at place r) (at + 1) pla
 -- so many records later
 abbrev pub later : LogPlace → ℕ → LogPlace
 later to records = record { at = to.at + records; place = to.place }
+
+-- a kind as a word
+abbrev pub kind_word : Kind → ℕ
+kind_word Removed = 1
+kind_word Unwired = 2
+kind_word PortMoved = 3
+kind_word NodeMoved = 4
+
+-- the log is the same lent memory after as before, whatever is written to it
+abbrev pub SameLog : Log → Log → Type 0
+SameLog before after = after.words.ghost_name ≡ before.words.ghost_name
 
 -- f 0, f 1, .., f (n - 1)
 unfoldable pub listed : (ℕ → Rec) → ℕ → List Rec

@@ -5,12 +5,14 @@ ghost use Rattle.slabs.specs.Slab.{owners_written};
 ghost use Rattle.slabs.specs.declared.node_entry.NodeEntry.TheVariants.{Node};
 ghost use Rattle.edits.specs.Store.{store_in, SameMemory};
 ghost use Rattle.edits.specs.Fit.{SlotsFit, Fit};
+ghost use Rattle.edits.specs.Counts.{live_slots, live_ports};
+ghost use Rattle.renumber.specs.Records.{later, SameLog};
 ghost use Rattle.renumber.specs.Compact.{compact_answer, followed, slab_dropped, slabs_dropped};
 ghost use Rattle.renumber.specs.Packing.{CanPackNodes, PackedNodes, CompactedNodes, CanPackPorts, PackedPorts, CompactedPorts};
 ghost use Rattle.renumber.specs.Room.{RecordRoom};
 
-use crate::log::{Kind, LogPlace};
-use crate::{log, moves};
+use crate::log::{Kind, Log};
+use crate::moves;
 use edits::answer::{Answer, Refusal};
 use edits::store::Tables;
 use slabs::counters::Counters;
@@ -44,21 +46,17 @@ fn move_node(slots: &mut [u32], owners: &mut [u32], new: u32, meta: NodeMeta)
 
 // Live slots below the mark move down in order, each with a record; says how many there are.
 #[tactic(auto, using(crate::proofs::PackLaws::node_laws))]
-fn pack_nodes(
-    slots: &mut [u32],
-    owners: &mut [u32],
-    log: &mut [u32],
-    mark: u32,
-    to: LogPlace,
-) -> u32
-    requires { CanPackNodes slots.old owners.old log.old mark to }
-    ensures { PackedNodes slots.old owners.old log.old mark to slots.new owners.new log.new result }
+fn pack_nodes(slots: &mut [u32], owners: &mut [u32], log: &mut Log<'_>, mark: u32) -> u32
+    requires { CanPackNodes slots.old owners.old log.old.words.now mark log.old.to }
+    ensures memory { SameLog log.old log.new }
+    ensures words { PackedNodes slots.old owners.old log.old.words.now mark log.old.to slots.new owners.new log.new.words.now result }
+    ensures next { log.new.to ≡ later log.old.to result }
 {
     let mut new: u32 = 0;
     for k in 0..mark {
         if let NodeEntry::Node(meta) = slabs::node_entry::read_slot(slots, k as usize) {
             move_node(slots, owners, new, meta);
-            log::write_record(log, to.past(new), Kind::NodeMoved as u32, k, new);
+            log.write(Kind::NodeMoved, k, new);
             new += 1;
         }
     }
@@ -70,15 +68,16 @@ fn pack_nodes(
 pub fn compact_nodes(
     slots: &mut [u32],
     owners: &mut [u32],
-    log: &mut [u32],
+    log: &mut Log<'_>,
     counters: Counters,
-    to: LogPlace,
 ) -> Counters
-    requires { CanPackNodes slots.old owners.old log.old counters.nodemark to }
-    ensures { CompactedNodes slots.old owners.old log.old counters to slots.new owners.new log.new result }
+    requires { CanPackNodes slots.old owners.old log.old.words.now counters.nodemark log.old.to }
+    ensures memory { SameLog log.old log.new }
+    ensures words { CompactedNodes slots.old owners.old log.old.words.now counters log.old.to slots.new owners.new log.new.words.now result }
+    ensures next { log.new.to ≡ later log.old.to (live_slots slots.old counters.nodemark) }
 {
     let mark = counters.nodemark;
-    let live = pack_nodes(slots, owners, log, mark, to);
+    let live = pack_nodes(slots, owners, log, mark);
     slabs::slab::fill(
         slots,
         WIDTH * live as usize,
@@ -112,12 +111,13 @@ fn pack_ports(
     slots: &mut [u32],
     links: &mut [u32],
     owners: &mut [u32],
-    log: &mut [u32],
+    log: &mut Log<'_>,
     mark: u32,
-    to: LogPlace,
 ) -> u32
-    requires { CanPackPorts slots.old links.old owners.old log.old mark to }
-    ensures { PackedPorts slots.old links.old owners.old log.old mark to slots.new links.new owners.new log.new result }
+    requires { CanPackPorts slots.old links.old owners.old log.old.words.now mark log.old.to }
+    ensures memory { SameLog log.old log.new }
+    ensures words { PackedPorts slots.old links.old owners.old log.old.words.now mark log.old.to slots.new links.new owners.new log.new.words.now result }
+    ensures next { log.new.to ≡ later log.old.to result }
 {
     let mut new: u32 = 0;
     for p in 0..mark {
@@ -126,7 +126,7 @@ fn pack_ports(
             moves::move_port(links, p, new);
             owners[new as usize] = word;
             follow_first(slots, port.node, p, new);
-            log::write_record(log, to.past(new), Kind::PortMoved as u32, p, new);
+            log.write(Kind::PortMoved, p, new);
             new += 1;
         }
     }
@@ -164,18 +164,14 @@ fn drop_slabs(slots: &mut [u32], mark: u32)
 
 // Call 8: live ports move down in order, spare capacity goes, and all chains of slabs are emptied.
 #[tactic(auto, using(crate::proofs::PackLaws::port_laws))]
-pub fn compact_ports(
-    tables: &mut Tables<'_>,
-    log: &mut [u32],
-    counters: Counters,
-    to: LogPlace,
-) -> Counters
-    requires { Fit (store_in tables.old counters) × RecordRoom log.old to counters.ports }
-    ensures memory { SameMemory tables.old tables.new }
-    ensures words { CompactedPorts (store_in tables.old counters) log.old to tables.new.slots.now tables.new.links.now tables.new.owners.now tables.new.heads.now log.new result }
+pub fn compact_ports(tables: &mut Tables<'_>, log: &mut Log<'_>, counters: Counters) -> Counters
+    requires { Fit (store_in tables.old counters) × RecordRoom log.old.words.now log.old.to counters.ports }
+    ensures memory { SameMemory tables.old tables.new × SameLog log.old log.new }
+    ensures words { CompactedPorts (store_in tables.old counters) log.old.words.now log.old.to tables.new.slots.now tables.new.links.now tables.new.owners.now tables.new.heads.now log.new.words.now result }
+    ensures next { log.new.to ≡ later log.old.to (live_ports tables.old.owners.now counters.portmark) }
 {
     let mark = counters.portmark;
-    let ports = pack_ports(tables.slots, tables.links, tables.owners, log, mark, to);
+    let ports = pack_ports(tables.slots, tables.links, tables.owners, log, mark);
     drop_slabs(tables.slots, counters.nodemark);
     slabs::slab::fill(tables.links, ports as usize, (mark - ports) as usize, 0);
     slabs::slab::fill(tables.owners, ports as usize, (mark - ports) as usize, 0);

@@ -1,45 +1,67 @@
 // Records: the place of their call in the run, kind, old, new; four words each.
 ghost use Rattle.std.specs.Prelude.{◌≡◌, ◌+◌, ◌*◌, ◌≤◌, length};
-ghost use Rattle.renumber.specs.Records.{record_width, rec, set_record, later};
+ghost use Rattle.renumber.specs.Records.{record_width, rec, set_record, later, kind_word, SameLog};
+
+use slabs::rows::write_row;
 
 // The words of a record.
 pub const RECORD: usize = 4;
 
-// The kinds of a record: a port that goes, without a wire or with one, and a port or a slot that stays. `as u32` gives the word.
-#[derive(Clone, Copy, Debug, PartialEq, Eq)]
+// The kinds of a record: a port that goes, without a wire or with one, and a port or a slot that stays.
+#[derive(Clone, Copy, PartialEq, Eq)]
 pub enum Kind {
-    Removed = 1,
-    Unwired = 2,
-    PortMoved = 3,
-    NodeMoved = 4,
+    Removed,
+    Unwired,
+    PortMoved,
+    NodeMoved,
+}
+
+impl From<Kind> for u32 {
+    ghost from_gives = { λ kind word. word ≡ kind_word kind };
+
+    // The kind as a word of a record.
+    fn from(kind: Kind) -> u32 {
+        match kind {
+            Kind::Removed => 1,
+            Kind::Unwired => 2,
+            Kind::PortMoved => 3,
+            Kind::NodeMoved => 4,
+        }
+    }
 }
 
 // Where the next record goes, counted in records, and at which place of its run the call stands.
-#[derive(Clone, Copy)]
+#[derive(Clone, Copy, PartialEq, Eq)]
 pub struct LogPlace {
     pub at: usize,
     pub place: u32,
 }
 
-impl LogPlace {
-    // So many records later.
-    pub fn past(mut self, records: u32) -> Self
-        requires { self.at ≤ 1048576 }
-        ensures { result ≡ later self records }
-    {
-        self.at += records as usize;
-        self
-    }
-}
-
-// Writes one record.
+// Writes one record. The kind is a word here, any word, as it always was.
+#[tactic(auto, using(slabs::proofs::RowLaws::set_row_of_four))]
 pub fn write_record(log: &mut [u32], to: LogPlace, kind: u32, old: u32, new: u32)
     requires { record_width * to.at + record_width ≤ length log.old }
     ensures { log.new ≡ set_record log.old to.at to.place (rec kind old new) }
 {
-    let base = RECORD * to.at;
-    log[base] = to.place;
-    log[base + 1] = kind;
-    log[base + 2] = old;
-    log[base + 3] = new;
+    write_row::<RECORD>(log, to.at, [to.place, kind, old, new]);
+}
+
+// A log that is written to, and where its next record goes.
+#[derive(Drop)]
+pub struct Log<'a> {
+    pub words: &'a mut [u32],
+    pub to: LogPlace,
+}
+
+impl Log<'_> {
+    // Writes the next record.
+    pub fn write(&mut self, kind: Kind, old: u32, new: u32)
+        requires { record_width * self.old.to.at + record_width ≤ length self.old.words.now }
+        ensures memory { SameLog self.old self.new }
+        ensures words { self.new.words.now ≡ set_record self.old.words.now self.old.to.at self.old.to.place (rec (kind_word kind) old new) }
+        ensures next { self.new.to ≡ later self.old.to 1 }
+    {
+        write_record(self.words, self.to, u32::from(kind), old, new);
+        self.to.at += 1;
+    }
 }

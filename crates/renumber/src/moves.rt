@@ -1,35 +1,38 @@
 // What resize and the compactions are made of: cutting removed ports and carrying ports to new numbers, each with its records.
 ghost use Rattle.std.specs.Prelude.{◌≡◌, ◌+◌, ◌*◌, ◌≤◌, ◌<◌, length};
 ghost use Rattle.slabs.specs.Links.{Inside};
-ghost use Rattle.renumber.specs.Records.{record_width, set_record, logged};
+ghost use Rattle.renumber.specs.Records.{record_width, set_record, logged, later, SameLog};
 ghost use Rattle.renumber.specs.Moves.{removed_record, moved, turn, moved_run, moved_records};
 ghost use Rattle.renumber.specs.Room.{RecordRoom, CanCut, CutPorts, CanMove};
 
-use crate::log;
-use crate::log::{Kind, LogPlace};
+use crate::log::{Kind, Log};
 
 // A port without a wire is removed, and one with a wire is unwired from its partner.
 #[tactic(auto, unfolding(crate::specs::Moves::removed_record, slabs::specs::Links::link_at))]
-fn record_removed(links: &[u32], log: &mut [u32], to: LogPlace, port: u32)
-    requires { (port < length links.now) × (record_width * to.at + record_width ≤ length log.old) }
-    ensures { log.new ≡ set_record log.old to.at to.place (removed_record links.now port) }
+fn record_removed(links: &[u32], log: &mut Log<'_>, port: u32)
+    requires { (port < length links.now) × (record_width * log.old.to.at + record_width ≤ length log.old.words.now) }
+    ensures memory { SameLog log.old log.new }
+    ensures words { log.new.words.now ≡ set_record log.old.words.now log.old.to.at log.old.to.place (removed_record links.now port) }
+    ensures next { log.new.to ≡ later log.old.to 1 }
 {
     match slabs::links::link_at(links, port as usize) {
-        None => log::write_record(log, to, Kind::Removed as u32, port, 0),
-        Some(partner) => log::write_record(log, to, Kind::Unwired as u32, port, partner),
+        None => log.write(Kind::Removed, port, 0),
+        Some(partner) => log.write(Kind::Unwired, port, partner),
     }
 }
 
 // Cuts n removed ports from `first` on, by rising number, and records each with the partner that it has at that moment.
 // Says how many wires were cut.
 #[tactic(auto, using(crate::proofs::MoveLaws::cut_laws, crate::proofs::RecordLaws::log_laws), unfolding(slabs::specs::Links::cut_run, slabs::specs::Links::wires_in, crate::specs::Moves::removed_records))]
-pub fn remove_ports(links: &mut [u32], log: &mut [u32], to: LogPlace, first: u32, n: u32) -> u32
-    requires { CanCut links.old log.old to first n }
-    ensures { CutPorts links.old log.old to first n links.new log.new result }
+pub fn remove_ports(links: &mut [u32], log: &mut Log<'_>, first: u32, n: u32) -> u32
+    requires { CanCut links.old log.old.words.now log.old.to first n }
+    ensures memory { SameLog log.old log.new }
+    ensures words { CutPorts links.old log.old.words.now log.old.to first n links.new log.new.words.now result }
+    ensures next { log.new.to ≡ later log.old.to n }
 {
     let mut wires: u32 = 0;
     for i in 0..n {
-        record_removed(links, log, to.past(i), first + i);
+        record_removed(links, log, first + i);
         wires += slabs::links::cut(links, (first + i) as usize);
     }
     wires
@@ -87,18 +90,14 @@ pub fn move_ports(links: &mut [u32], run: Run)
 
 // Records those moves, in the same order.
 #[tactic(auto, using(crate::proofs::MoveLaws::run_laws, crate::proofs::RecordLaws::log_laws), unfolding(crate::specs::Moves::moved_records))]
-pub fn record_moves(log: &mut [u32], to: LogPlace, run: Run)
-    requires { RecordRoom log.old to run.n × (run.from + run.n ≤ 1048576) × (run.to + run.n ≤ 1048576) }
-    ensures { log.new ≡ logged log.old to.at to.place (moved_records run) }
+pub fn record_moves(log: &mut Log<'_>, run: Run)
+    requires { RecordRoom log.old.words.now log.old.to run.n × (run.from + run.n ≤ 1048576) × (run.to + run.n ≤ 1048576) }
+    ensures memory { SameLog log.old log.new }
+    ensures words { log.new.words.now ≡ logged log.old.words.now log.old.to.at log.old.to.place (moved_records run) }
+    ensures next { log.new.to ≡ later log.old.to run.n }
 {
     for i in 0..run.n {
         let k = run.turn(i);
-        log::write_record(
-            log,
-            to.past(i),
-            Kind::PortMoved as u32,
-            run.from + k,
-            run.to + k,
-        );
+        log.write(Kind::PortMoved, run.from + k, run.to + k);
     }
 }

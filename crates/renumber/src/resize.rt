@@ -3,14 +3,15 @@ ghost use Rattle.std.specs.Prelude.{◌≡◌, ◌+◌, ◌*◌, ◌≤◌, ◌<
 ghost use Rattle.slabs.specs.NodeEntry.{width};
 ghost use Rattle.edits.specs.Store.{store_in, SameMemory};
 ghost use Rattle.edits.specs.Fit.{Fit, SlotsFit};
+ghost use Rattle.renumber.specs.Records.{later, SameLog};
 ghost use Rattle.renumber.specs.Resize.{slab_size, is_idle, is_in_place, inlets_kept, outlets_kept, inlets_removed, outlets_removed, records_needed, log_answer, change_answer, resize_answer, changed_slots, changed_owners};
 ghost use Rattle.renumber.specs.Room.{SmallChange, CanChange, CutRemoved, CanCutRemoved, CanShift, Shifted, CanMoveKept, MovedKept, CanFreeOld, FreedOld, CanReallocate, Reallocated, Resized};
 
-use crate::log::LogPlace;
+use crate::log::Log;
 use crate::moves;
 use crate::moves::Run;
 use edits::answer::{Answer, Refusal};
-use edits::questions::live_node;
+use edits::below::Slots;
 use edits::steps::MOST;
 use edits::store::Tables;
 use slabs::counters::Counters;
@@ -145,7 +146,11 @@ pub fn resize_answer(
     if MOST < inlets || MOST < outlets {
         return Err(Refusal::TooManyPorts);
     }
-    let meta = live_node(slots, counters.nodemark, node).ok_or(Refusal::NoNode(node))?;
+    let below = Slots {
+        words: slots,
+        mark: counters.nodemark,
+    };
+    let meta = below.live(node).ok_or(Refusal::NoNode(node))?;
     let change = Change {
         node,
         meta,
@@ -157,15 +162,16 @@ pub fn resize_answer(
 
 // Cuts the removed inlets, then the removed outlets, with their records. Says how many wires went.
 #[tactic(auto, using(crate::proofs::MoveLaws::cut_laws, crate::proofs::RecordLaws::log_laws))]
-fn cut_removed(links: &mut [u32], log: &mut [u32], to: LogPlace, change: Change) -> u32
-    requires { CanCutRemoved links.old log.old to change }
-    ensures { CutRemoved links.old log.old to change links.new log.new result }
+fn cut_removed(links: &mut [u32], log: &mut Log<'_>, change: Change) -> u32
+    requires { CanCutRemoved links.old log.old.words.now log.old.to change }
+    ensures memory { SameLog log.old log.new }
+    ensures words { CutRemoved links.old log.old.words.now log.old.to change links.new log.new.words.now result }
+    ensures next { log.new.to ≡ later log.old.to (inlets_removed change + outlets_removed change) }
 {
     let first = change.meta.first + change.inlets_kept();
-    let fewer = change.inlets_removed();
-    let wires = moves::remove_ports(links, log, to, first, fewer);
+    let wires = moves::remove_ports(links, log, first, change.inlets_removed());
     let start = change.meta.first + change.meta.inlets + change.outlets_kept();
-    wires + moves::remove_ports(links, log, to.past(fewer), start, change.outlets_removed())
+    wires + moves::remove_ports(links, log, start, change.outlets_removed())
 }
 
 // Writes the owner words of the changed step from `first` on.
@@ -200,9 +206,11 @@ fn write_change(slots: &mut [u32], change: Change, first: u32, capacity: u32)
 // In place: the kept outlets move, from the low end up where inlets fall, else from the high end down. The ports of the old
 // counts that are left over are nobody's.
 #[tactic(auto, using(slabs::proofs::FillLaws::written_length), unfolding(crate::specs::Resize::in_place_owners))]
-fn shift(links: &mut [u32], owners: &mut [u32], log: &mut [u32], to: LogPlace, change: Change)
-    requires { CanShift links.old owners.old log.old to change }
-    ensures { Shifted links.old owners.old log.old to change links.new owners.new log.new }
+fn shift(links: &mut [u32], owners: &mut [u32], log: &mut Log<'_>, change: Change)
+    requires { CanShift links.old owners.old log.old.words.now log.old.to change }
+    ensures memory { SameLog log.old log.new }
+    ensures words { Shifted links.old owners.old log.old.words.now log.old.to change links.new owners.new log.new.words.now }
+    ensures next { log.new.to ≡ later log.old.to (outlets_kept change) }
 {
     let first = change.meta.first;
     let run = Run {
@@ -212,7 +220,7 @@ fn shift(links: &mut [u32], owners: &mut [u32], log: &mut [u32], to: LogPlace, c
         rising: change.inlets < change.meta.inlets,
     };
     moves::move_ports(links, run);
-    moves::record_moves(log, to, run);
+    moves::record_moves(log, run);
     own_ports(owners, change, first);
     let total = change.inlets + change.outlets;
     let rest = (change.meta.inlets + change.meta.outlets).saturating_sub(total);
@@ -221,9 +229,11 @@ fn shift(links: &mut [u32], owners: &mut [u32], log: &mut [u32], to: LogPlace, c
 
 // Carries the kept inlets, then the kept outlets, to a new slab that starts at `first`, with their records.
 #[tactic(auto, using(crate::proofs::MoveLaws::run_laws, crate::proofs::RecordLaws::log_laws))]
-fn move_kept(links: &mut [u32], log: &mut [u32], to: LogPlace, change: Change, first: u32)
-    requires { CanMoveKept links.old log.old to change first }
-    ensures { MovedKept links.old log.old to change first links.new log.new }
+fn move_kept(links: &mut [u32], log: &mut Log<'_>, change: Change, first: u32)
+    requires { CanMoveKept links.old log.old.words.now log.old.to change first }
+    ensures memory { SameLog log.old log.new }
+    ensures words { MovedKept links.old log.old.words.now log.old.to change first links.new log.new.words.now }
+    ensures next { log.new.to ≡ later log.old.to (inlets_kept change + outlets_kept change) }
 {
     let ins = Run {
         from: change.meta.first,
@@ -238,9 +248,9 @@ fn move_kept(links: &mut [u32], log: &mut [u32], to: LogPlace, change: Change, f
         rising: true,
     };
     moves::move_ports(links, ins);
-    moves::record_moves(log, to, ins);
+    moves::record_moves(log, ins);
     moves::move_ports(links, outs);
-    moves::record_moves(log, to.past(ins.n), outs);
+    moves::record_moves(log, outs);
 }
 
 // Frees the old slab, where there is one.
@@ -257,19 +267,19 @@ fn free_old(links: &mut [u32], owners: &mut [u32], heads: &mut [u32], meta: Node
 // Into a new slab, which is taken before the old one is freed.
 fn reallocate(
     tables: &mut Tables<'_>,
-    log: &mut [u32],
+    log: &mut Log<'_>,
     counters: Counters,
-    to: LogPlace,
     change: Change,
 ) -> Counters
-    requires { CanReallocate tables.old.slots.now tables.old.links.now tables.old.owners.now tables.old.heads.now log.old counters to change }
-    ensures memory { SameMemory tables.old tables.new }
-    ensures words { Reallocated tables.old.slots.now tables.old.links.now tables.old.owners.now tables.old.heads.now log.old counters to change tables.new.slots.now tables.new.links.now tables.new.owners.now tables.new.heads.now log.new result }
+    requires { CanReallocate tables.old.slots.now tables.old.links.now tables.old.owners.now tables.old.heads.now log.old.words.now counters log.old.to change }
+    ensures memory { SameMemory tables.old tables.new × SameLog log.old log.new }
+    ensures words { Reallocated tables.old.slots.now tables.old.links.now tables.old.owners.now tables.old.heads.now log.old.words.now counters log.old.to change tables.new.slots.now tables.new.links.now tables.new.owners.now tables.new.heads.now log.new.words.now result }
+    ensures next { log.new.to ≡ later log.old.to (inlets_kept change + outlets_kept change) }
 {
     let size = slab_size(change.inlets + change.outlets);
     let (first, after) = slabs::slab::take_slab(tables.links, tables.heads, counters, size);
     own_ports(tables.owners, change, first);
-    move_kept(tables.links, log, to, change, first);
+    move_kept(tables.links, log, change, first);
     write_change(tables.slots, change, first, size);
     free_old(tables.links, tables.owners, tables.heads, change.meta);
     after
@@ -278,24 +288,23 @@ fn reallocate(
 // Resizes a live step whose counts change. What it needs is known to be there.
 pub fn resize(
     tables: &mut Tables<'_>,
-    log: &mut [u32],
+    log: &mut Log<'_>,
     counters: Counters,
-    to: LogPlace,
     change: Change,
 ) -> Counters
-    requires { Fit (store_in tables.old counters) × CanChange (store_in tables.old counters) log.old to change }
-    ensures memory { SameMemory tables.old tables.new }
-    ensures words { Resized (store_in tables.old counters) log.old to change tables.new.slots.now tables.new.links.now tables.new.owners.now tables.new.heads.now log.new result }
+    requires { Fit (store_in tables.old counters) × CanChange (store_in tables.old counters) log.old.words.now log.old.to change }
+    ensures memory { SameMemory tables.old tables.new × SameLog log.old log.new }
+    ensures words { Resized (store_in tables.old counters) log.old.words.now log.old.to change tables.new.slots.now tables.new.links.now tables.new.owners.now tables.new.heads.now log.new.words.now result }
+    ensures next { log.new.to ≡ later log.old.to (records_needed change) }
 {
-    let wires = cut_removed(tables.links, log, to, change);
-    let next = to.past(change.inlets_removed() + change.outlets_removed());
+    let wires = cut_removed(tables.links, log, change);
     let before = change.meta.inlets + change.meta.outlets;
     let after = change.inlets + change.outlets;
     let cut = counters
         .links_uncounted(wires)
         .ports_recounted(before, after);
     if change.is_in_place() {
-        shift(tables.links, tables.owners, log, next, change);
+        shift(tables.links, tables.owners, log, change);
         write_change(
             tables.slots,
             change,
@@ -304,5 +313,5 @@ pub fn resize(
         );
         return cut;
     }
-    reallocate(tables, log, cut, next, change)
+    reallocate(tables, log, cut, change)
 }

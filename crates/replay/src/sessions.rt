@@ -1,6 +1,7 @@
 // Sessions: an empty store of some room, and runs of calls over it.
 ghost use Rattle.std.specs.Prelude.{◌≡◌, ◌≢◌, ◌*◌, ◌/◌, ◌≤◌, length, take, min, OnOk};
 ghost use Rattle.std.specs.Io.KnownBytes.{Appends};
+ghost use Rattle.edits.specs.Store.{SameMemory};
 ghost use Rattle.run.specs.Run.{code_of, records_of};
 ghost use Rattle.replay.specs.Transcript.{transcript, refusal_line};
 
@@ -95,7 +96,9 @@ impl Session {
 }
 
 // The tables of a session are made empty, as far as its room goes.
-fn begin(session: Session, tables: &mut Tables) {
+fn begin(session: Session, tables: &mut Tables<'_>)
+    ensures memory { SameMemory tables.old tables.new }
+{
     zero(tables.slots, session.slot_words);
     zero(tables.links, session.ports);
     zero(tables.owners, session.ports);
@@ -103,7 +106,9 @@ fn begin(session: Session, tables: &mut Tables) {
 }
 
 // A word of the store is overwritten, if there is such a word. So stores can be tried that no run leaves.
-fn overwrite(session: Session, tables: &mut Tables, table: u32, at: u32, word: u32) -> Session {
+fn overwrite(session: Session, tables: &mut Tables<'_>, table: u32, at: u32, word: u32) -> Session
+    ensures memory { SameMemory tables.old tables.new }
+{
     match table {
         0 => set_word(tables.slots, session.slot_words, at, word),
         1 => set_word(tables.links, session.ports, at, word),
@@ -120,8 +125,10 @@ fn change<W: Write>(
     output: &mut W,
     session: Session,
     line: Change,
-    tables: &mut Tables,
-) -> io::Result<Session> {
+    tables: &mut Tables<'_>,
+) -> io::Result<Session>
+    ensures memory { SameMemory tables.old tables.new }
+{
     match line {
         Change::Begin {
             slots,
@@ -194,7 +201,9 @@ fn make_run<W: Write>(
     tables: &mut Tables<'_>,
     scratch: &mut [u32],
     log: &mut [u32],
-) -> io::Result<Session> {
+) -> io::Result<Session>
+    ensures memory { SameMemory tables.old tables.new }
+{
     let slot_end = room(session.slot_words, tables.slots);
     let link_end = room(session.ports, tables.links);
     let owner_end = room(session.ports, tables.owners);
@@ -222,10 +231,12 @@ fn make_run<W: Write>(
 pub fn replay<W: Write>(
     output: &mut W,
     text: &[u8],
-    tables: &mut Tables,
+    tables: &mut Tables<'_>,
     scratch: &mut [u32],
     log: &mut [u32],
-) -> io::Result<()> {
+) -> io::Result<()>
+    ensures memory { SameMemory tables.old tables.new }
+{
     let mut session = Session::empty(64, 512, 128, 512);
     let mut at: usize = 0;
     while at < text.len() {

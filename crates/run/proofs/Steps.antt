@@ -166,8 +166,8 @@ module _ (s : Store) (calls answers log : List ℕ) (shaped : Shaped s) (sound :
       omega (arith, stepped_room n, stepped_log s calls answers log n, records_fit w.store (stepped_sound n) (length w.log / record_width - w.written) (call_at calls n))
 
 -- The tables and the counters that a call leaves are a store: that of its definition.
-pub became_store : {after : After} {log : List ℕ} {to : LogPlace} {slots links owners heads log' : List ℕ} {r : Outcome}
-    → Became after log to slots links owners heads log' r → store_of slots links owners heads r.counters ≡ after.store
+pub became_store : {after : After} {log : List ℕ} {to : LogPlace} {slots links owners heads log' : List ℕ} {to' : LogPlace} {r : Outcome}
+    → Became after log to slots links owners heads log' to' r → store_of slots links owners heads r.counters ≡ after.store
 became_store b =
     λ j. record { slots = b.slots_after j; links = b.links_after j; owners = b.owners_after j; heads = b.heads_after j; counters = b.counters j }
 
@@ -199,12 +199,12 @@ module _ {s : Store} {calls answers log : List ℕ} {s' : Store} {answers' log' 
       }
 
   -- and one call more brings it to the next.
-  pub stands_next : {call : Call} {slots links owners heads answers'' log'' : List ℕ} {r : Outcome} {words : AnswerWords} → call_width * i + call_width ≤ length calls
+  pub stands_next : {call : Call} {slots links owners heads answers'' log'' : List ℕ} {to : LogPlace} {r : Outcome} {words : AnswerWords} → call_width * i + call_width ≤ length calls
       → call ≡ call_at calls i
-      → Became (call_of s' (remaining log' (record { at = at; place = i })) call) log' (record { at = at; place = i }) slots links owners heads log'' r
+      → Became (call_of s' (remaining log' (record { at = at; place = i })) call) log' (record { at = at; place = i }) slots links owners heads log'' to r
       → words ≡ answer_words r.answer
       → answers'' ≡ set_answer answers' i words
-      → Stands s calls answers log (store_of slots links owners heads r.counters) answers'' log'' r.to.at (i + 1)
+      → Stands s calls answers log (store_of slots links owners heads r.counters) answers'' log'' to.at (i + 1)
   unfolding one_more
   stands_next {call} more this became said wrote =
       let w : Midway = stepped s calls answers log i in

@@ -10,8 +10,9 @@ pub mod shape;
 use calls::Call;
 use edits::answer::AnswerWords;
 use edits::store::Tables;
-use renumber::log::LogPlace;
+use renumber::log::{Log, LogPlace};
 use slabs::counters::Counters;
+use slabs::rows::{read_row, write_row};
 
 // Why a run answers no call: a length is broken, or the store is not sound.
 #[derive(Clone, Copy, PartialEq, Eq)]
@@ -43,29 +44,28 @@ pub struct RunAnswer {
 const CALL: usize = 4;
 
 // Reads call number i.
+#[tactic(auto, using(slabs::proofs::RowLaws::row_of_four))]
 fn read_call(calls: &[u32], i: usize) -> Call
     requires { call_width * i + call_width ≤ length calls.now }
     ensures { result ≡ call_at calls.now i }
 {
-    let base = CALL * i;
-    Call {
-        n: calls[base],
-        a: calls[base + 1],
-        b: calls[base + 2],
-        c: calls[base + 3],
-    }
+    let [n, a, b, c] = read_row::<CALL>(calls, i);
+    Call { n, a, b, c }
 }
 
 // Writes answer number i.
+#[tactic(auto, using(slabs::proofs::RowLaws::set_row_of_four))]
 fn write_answer(answers: &mut [u32], i: usize, words: AnswerWords)
     requires { call_width * i + call_width ≤ length answers.old }
     ensures { answers.new ≡ set_answer answers.old i words }
 {
-    let base = CALL * i;
-    answers[base] = words.code;
-    answers[base + 1] = words.first;
-    answers[base + 2] = words.second;
-    answers[base + 3] = words.third;
+    let AnswerWords {
+        code,
+        first,
+        second,
+        third,
+    } = words;
+    write_row::<CALL>(answers, i, [code, first, second, third]);
 }
 
 // The calls of a run over a sound store, each with what remains of the log.
@@ -81,16 +81,19 @@ fn answer_calls(
     ensures calls { Answered (store_in tables.old counters) calls.now answers.old log.old (store_in tables.new result.counters) answers.new log.new result }
 {
     let mut after = counters;
-    let mut at = 0;
+    let mut records = Log {
+        words: log,
+        to: LogPlace { at: 0, place: 0 },
+    };
     for place in 0..(calls.len() / CALL) as u32 {
         let call = read_call(calls, place as usize);
-        let done = calls::dispatch(tables, log, after, LogPlace { at, place }, call);
+        records.to.place = place;
+        let done = calls::dispatch(tables, &mut records, after, call);
         write_answer(answers, place as usize, AnswerWords::from(done.answer));
         after = done.counters;
-        at = done.to.at;
     }
     RunAnswer {
-        records: Ok(at as u32),
+        records: Ok(records.to.at as u32),
         counters: after,
     }
 }

@@ -1,7 +1,7 @@
 -- What owner words and slot words say once they are written: an entry that is stored is read back, and no other slot changes.
-use Prim.Native.Nat.{ℕ, suc, zero, ◌+◌, ◌-◌, ◌*◌, ◌≤◌, ◌<◌}
+use Prim.Native.Nat.{ℕ, suc, zero, ◌+◌, ◌*◌, ◌≤◌, ◌<◌}
 use mathlib.Core.List.{List}
-use mathlib.Core.Path.{◌≡◌, refl, ap, ◌∙◌}
+use mathlib.Core.Path.{◌≡◌, refl, ◌∙◌}
 use native.Mathlib.Omega.{arith}
 use native.Mathlib.Nat.{add-sub_cancel}
 use lib.ListN.{length, get_or, set, length-set}
@@ -9,9 +9,8 @@ use lib.Seq.{get_or-set_same, get_or-set_other}
 use lib.Dec.{leb}
 use borrow.Author.Tests.{ne_eqb, le-leb, lt-leb}
 use mathlib.Core.Bool.{Bool, true, false}
-use Rattle.std.specs.Prelude.{Option, Some, None, SomeIff, eqb}
+use Rattle.std.specs.Prelude.{Some, eqb}
 use Rattle.slabs.specs.Choice.{pick}
-use Rattle.slabs.specs.Links.{link_at}
 use Rattle.slabs.specs.PortEntry.{outlet_bit, direction_word, owner_word, direction_of, facing, node_of, port_entry}
 use denote.Enum.Bare.{sameb}
 use Rattle.slabs.specs.contracts.port_entry.Direction.{the_type}
@@ -79,31 +78,6 @@ same_direction Incoming Incoming = refl
 same_direction Incoming Outgoing = refl
 same_direction Outgoing Incoming = refl
 same_direction Outgoing Outgoing = refl
-
--- What a link word less 1 is, where it is not 0, is what the definition of a port's partner says.
-pub link_word : (w : ℕ) (r : Option ℕ) → SomeIff r (1 ≤ w) (w - 1) → r ≡ pick (eqb w 0) None (Some (w - 1))
-link_word zero None n = refl
-link_word zero (Some q) h = absurd (omega (arith, h.0))
-link_word (suc w) None n = absurd (n (omega arith))
-link_word (suc w) (Some q) h = simp (ne_eqb (suc w) 0 (omega arith)) (ap Some h.1)
-
--- A port without a partner has the word 0,
-pub link_none : (links : List ℕ) (p : ℕ) → link_at links p ≡ None → get_or links p 0 ≡ 0
-unfolding link_at
-link_none links p e = go (get_or links p 0) e
-  where
-    go : (w : ℕ) → pick (eqb w 0) None (Some (w - 1)) ≡ None → w ≡ 0
-    go zero e = refl
-    go (suc w) e = grind arith
-
--- and the word of another is its partner plus 1.
-pub link_some : (links : List ℕ) (p q : ℕ) → link_at links p ≡ Some q → get_or links p 0 ≡ suc q
-unfolding link_at
-link_some links p q e = go (get_or links p 0) e
-  where
-    go : (w : ℕ) → pick (eqb w 0) None (Some (w - 1)) ≡ Some q → w ≡ suc q
-    go zero e = grind arith
-    go (suc w) e = grind arith
 
 -- A written entry leaves the table's length.
 pub set_entry-length : (slots : List ℕ) (k : ℕ) (e : NodeEntry) → length (set_entry slots k e) ≡ length slots

@@ -5,7 +5,7 @@ use mathlib.Core.Path.{◌≡◌, refl, sym, ap, ◌∙◌}
 use native.Mathlib.Omega.{arith}
 use native.Mathlib.Nat.{zero-add}
 use native.Mathlib.Decide.{ℕ_discrete, dec_lt}
-use lib.ListN.{length, get_or, set, take, drop}
+use lib.ListN.{length, get_or, set, take}
 use lib.Seq.{get_or-set_same, get_or-set_other}
 use borrow.Rule.Slice.PartMut.{put_mid}
 use Rattle.std.specs.Prelude.{replicate}
@@ -102,13 +102,6 @@ fill_mid table first n w h =
       where
         same : first + (n + (k - first - n)) ≡ k
         same = omega arith
-
--- The length of that part, as a call that fills it says it.
-pub part-length : (table : List ℕ) (first n : ℕ) → first + n ≤ length table → length (take (first + n - first) (drop first table)) ≡ n
-part-length table first n h = simp (length-take, length-drop) (omega arith)
-
-pub part : (first n : ℕ) → first + n - first ≡ n
-part first n = omega arith
 
 -- A table that is filled as a whole.
 pub fill_whole : (table : List ℕ) (w : ℕ) → replicate (length table) w ≡ filled table 0 (length table) w

@@ -2,6 +2,7 @@
 pub mod ChoiceLaws
 pub mod Shapes
 pub mod SumLaws
+pub mod RowLaws
 pub mod EntryLaws
 pub mod FillLaws
 pub mod WireLaws

@@ -75,3 +75,6 @@ pub filled-length : (ls : List ℕ) (first n w : ℕ) → length (filled ls firs
 unfolding filled
 filled-length ls first zero w = refl
 filled-length ls first (suc n) w = length-set (filled ls first n w) (first + n) w ∙ filled-length ls first n w
+
+-- What a loop over a run of cuts needs.
+pub ruleset cut_laws = (cut_run-length, cut_run_inside, wires_in_le, wired_at_le)

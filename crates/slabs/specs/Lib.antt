@@ -2,6 +2,7 @@
 pub mod Choice
 pub mod Sums
 pub mod PortEntry
+pub mod Rows
 pub mod NodeEntry
 pub mod Links
 pub mod Counters

@@ -5,4 +5,5 @@ pub mod counters;
 pub mod links;
 pub mod node_entry;
 pub mod port_entry;
+pub mod rows;
 pub mod slab;

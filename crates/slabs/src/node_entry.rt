@@ -1,7 +1,8 @@
 // Slot words: a live step with its slab, or a free slot with its neighbours in the free chain.
 ghost use Rattle.std.specs.Prelude.{◌≡◌, ◌+◌, ◌*◌, ◌≤◌, length};
-ghost use Rattle.slabs.specs.NodeEntry.{width, node_entry, set_slot, set_entry, inlets_of, inlet_ports, outlet_ports, spare_ports};
+ghost use Rattle.slabs.specs.NodeEntry.{width, node_entry, set_entry, inlets_of, inlet_ports, outlet_ports, spare_ports};
 
+use crate::rows::{read_row, write_row};
 use std::ops::Range;
 
 // The words of a slot. A later request adds a fifth.
@@ -49,52 +50,35 @@ impl NodeMeta {
 }
 
 // Reads slot `slot`.
+#[tactic(auto, using(crate::proofs::RowLaws::row_of_four), unfolding(crate::specs::NodeEntry::node_entry))]
 pub fn read_slot(slots: &[u32], slot: usize) -> NodeEntry
     requires { width * slot + width ≤ length slots.now }
     ensures { result ≡ node_entry slots.now slot }
 {
-    let base = WIDTH * slot;
-    let second = slots[base + 1];
+    let [first, second, third, fourth] = read_row::<WIDTH>(slots, slot);
     if second == 0 {
         return NodeEntry::Free {
-            previous: slots[base],
-            next: slots[base + 2],
+            previous: first,
+            next: third,
         };
     }
     NodeEntry::Node(NodeMeta {
-        first: slots[base],
+        first,
         inlets: second - 1,
-        outlets: slots[base + 2],
-        capacity: slots[base + 3],
+        outlets: third,
+        capacity: fourth,
     })
 }
 
-// Writes four words to slot `slot`.
-fn write_words(slots: &mut [u32], slot: usize, first: u32, second: u32, third: u32, fourth: u32)
-    requires { width * slot + width ≤ length slots.old }
-    ensures { slots.new ≡ set_slot slots.old slot first second third fourth }
-{
-    let base = WIDTH * slot;
-    slots[base] = first;
-    slots[base + 1] = second;
-    slots[base + 2] = third;
-    slots[base + 3] = fourth;
-}
-
 // Writes an entry to slot `slot`.
+#[tactic(auto, using(crate::proofs::RowLaws::set_row_of_four), unfolding(crate::specs::NodeEntry::set_entry))]
 pub fn write_slot(slots: &mut [u32], slot: usize, entry: NodeEntry)
     requires { (width * slot + width ≤ length slots.old) × (inlets_of entry ≤ 16384) }
     ensures { slots.new ≡ set_entry slots.old slot entry }
 {
-    match entry {
-        NodeEntry::Free { previous, next } => write_words(slots, slot, previous, 0, next, 0),
-        NodeEntry::Node(meta) => write_words(
-            slots,
-            slot,
-            meta.first,
-            meta.inlets + 1,
-            meta.outlets,
-            meta.capacity,
-        ),
-    }
+    let words = match entry {
+        NodeEntry::Free { previous, next } => [previous, 0, next, 0],
+        NodeEntry::Node(meta) => [meta.first, meta.inlets + 1, meta.outlets, meta.capacity],
+    };
+    write_row::<WIDTH>(slots, slot, words);
 }

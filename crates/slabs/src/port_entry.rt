@@ -50,6 +50,7 @@ pub struct PortMeta {
 const OUTLET: u32 = 0x8000_0000;
 
 // Reads an owner word. Every word has a reading, so that no word can trap a reader; 0 is nobody's.
+#[tactic(auto, unfolding(crate::specs::PortEntry::port_entry, crate::specs::PortEntry::node_of, crate::specs::PortEntry::facing))]
 pub fn port_entry(word: u32) -> Option<PortMeta>
     ensures { result ≡ port_entry word }
 {

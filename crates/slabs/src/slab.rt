@@ -8,6 +8,7 @@ use crate::links;
 use crate::port_entry::{Direction, owner_word};
 
 // Whether a slab of this size can be had. `room` is the length of the port tables.
+#[tactic(auto, unfolding(crate::specs::Slab::at_hand))]
 pub fn at_hand(heads: &[u32], mark: u32, room: usize, size: u32) -> bool
     requires { (1 ≤ size) × (size ≤ length heads.now) }
     ensures { result ≡ at_hand heads.now mark room size }
@@ -16,6 +17,7 @@ pub fn at_hand(heads: &[u32], mark: u32, room: usize, size: u32) -> bool
 }
 
 // Takes a slab of this size, and gives its first port and the counters after it.
+#[tactic(auto, unfolding(crate::specs::Slab::at_hand, crate::specs::Slab::taken_first, crate::specs::Slab::taken_mark, crate::specs::Slab::taken_links, crate::specs::Slab::taken_heads))]
 pub fn take_slab(
     links: &mut [u32],
     heads: &mut [u32],
@@ -37,6 +39,7 @@ pub fn take_slab(
 }
 
 // Writes one word to n places of a table from `first` on.
+#[tactic(auto, using(crate::proofs::FillLaws::fill_mid))]
 pub fn fill(table: &mut [u32], first: usize, n: usize, word: u32)
     requires { first + n ≤ length table.old }
     ensures { table.new ≡ filled table.old first n word }
@@ -45,6 +48,7 @@ pub fn fill(table: &mut [u32], first: usize, n: usize, word: u32)
 }
 
 // Writes the owner words of a node's inlets and outlets, from `first` on.
+#[tactic(auto, unfolding(crate::specs::Slab::owners_written))]
 pub fn write_owners(owners: &mut [u32], node: u32, first: usize, inlets: usize, outlets: usize)
     requires { (node < 65536) × (first + inlets + outlets ≤ length owners.old) }
     ensures { owners.new ≡ owners_written owners.old node first inlets outlets }
@@ -56,6 +60,7 @@ pub fn write_owners(owners: &mut [u32], node: u32, first: usize, inlets: usize, 
 }
 
 // Frees a slab: cuts its wires, clears its owner words and puts it at the head of its chain. Says how many wires it cut.
+#[tactic(auto, unfolding(crate::specs::Slab::freed_links, crate::specs::Slab::freed_owners, crate::specs::Slab::freed_heads))]
 pub fn free_slab(
     links: &mut [u32],
     owners: &mut [u32],

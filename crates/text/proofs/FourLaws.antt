@@ -1,26 +1,13 @@
 -- Laws of tables of fours of words: a chunk of four is the words at a place.
-use Rattle.std.proofs.Common.{◌≡◌, ℕ, suc, ◌+◌, ◌*◌, ◌/◌, ◌≤◌, List, ◌∷◌, ◌++◌, length, get_or, take, drop, refl, ap, sym, ◌∙◌, arith, length-append, length-drop, drop-cons}
+use Rattle.std.proofs.Common.{◌≡◌, ℕ, ◌+◌, ◌*◌, ◌/◌, ◌≤◌, List, ◌++◌, length, take, drop, ap, sym, ◌∙◌, arith, length-append, length-drop}
 use Rattle.std.specs.Prelude.{Some, None}
 use Rattle.std.specs.Borrow.{Bor}
 use Rattle.std.specs.Slice.Iter.{chunks_exact_rest, chunks_exact_size, chunks_exact_steps}
 use Rattle.std.specs.declared.slice.ChunksExact.{ChunksExact}
 use Rattle.std.proofs.lemmas.List.{drop-drop}
 use Rattle.std.proofs.Math.Seq.{take-append_seam, drop-append_seam}
+use Rattle.slabs.proofs.RowLaws.{row_of_four}
 use Rattle.text.specs.Parts.{words_at}
-
--- Four words that are cut out of a table are its words at that place.
-four_words : (table : List ℕ) (place at : ℕ) → at ≡ 4 * place → at + 4 ≤ length table → take 4 (drop at table) ≡ words_at table place
-four_words table place at e more =
-    let first : drop at table ≡ get_or table at 0 ∷ drop (suc at) table = drop-cons table at 0 (omega arith) in
-    let second : drop (suc at) table ≡ get_or table (suc at) 0 ∷ drop (suc (suc at)) table = drop-cons table (suc at) 0 (omega arith) in
-    let third : drop (suc (suc at)) table ≡ get_or table (suc (suc at)) 0 ∷ drop (suc (suc (suc at))) table = drop-cons table (suc (suc at)) 0 (omega arith) in
-    let fourth : drop (suc (suc (suc at))) table ≡ get_or table (suc (suc (suc at))) 0 ∷ drop (suc (suc (suc (suc at)))) table = drop-cons table (suc (suc (suc at))) 0 (omega arith) in
-    let e₀ : at ≡ 4 * place + 0 = omega arith in
-    let e₁ : suc at ≡ 4 * place + 1 = omega arith in
-    let e₂ : suc (suc at) ≡ 4 * place + 2 = omega arith in
-    let e₃ : suc (suc (suc at)) ≡ 4 * place + 3 = omega arith in
-    let word : (i j : ℕ) → i ≡ j → get_or table i 0 ≡ get_or table j 0 = λ i j q. ap (λ (k : ℕ). get_or table k 0) q in
-    rw (first, second, third, fourth, word at (4 * place + 0) e₀, word (suc at) (4 * place + 1) e₁, word (suc (suc at)) (4 * place + 2) e₂, word (suc (suc (suc at))) (4 * place + 3) e₃)
 
 -- The first n fours of a table are given, and the rest of it is left to be cut.
 pub record FoursGiven (table : List ℕ) (n : ℕ) (s : ChunksExact ℕ) : Type 0 where
@@ -47,7 +34,7 @@ four_given table n s t four h step =
     let taken : take 4 (drop (4 * n) table) ≡ words = rw (few, both) at front in
     let dropped : drop 4 (drop (4 * n) table) ≡ rest = rw (few, both) at behind in
     let next : 4 * n + 4 ≡ 4 * (n + 1) = omega arith in (
-      sym taken ∙ four_words table n (4 * n) refl room,
+      sym taken ∙ row_of_four table n room,
       record {
         fours = step.0 ∙ h.fours;
         left = sym dropped ∙ drop-drop 4 (4 * n) table ∙ ap (λ (i : ℕ). drop i table) next;

@@ -6,5 +6,6 @@ pub mod CallLaws
 pub mod FourLaws
 pub mod OutputLaws
 pub mod SizeLaws
+pub mod PageLaws
 pub mod ZeroLaws
 pub mod DeskLaws

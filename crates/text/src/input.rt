@@ -1,10 +1,10 @@
 // Lines of calls: four numbers parted by tabs, each line ended.
-ghost use Rattle.std.specs.Prelude.{◌≡◌, ◌∷◌, [], ◌*◌, ◌≤◌, ◌<◌, length};
-ghost use Rattle.std.proofs.lemmas.List.Edits.{sets};
+ghost use Rattle.std.specs.Prelude.{◌≤◌, length};
 ghost use Rattle.text.specs.Parts.{Digit, FieldRead, LineRead, TextRead};
 
 use crate::numbers;
 use calls::Call;
+use slabs::rows::write_row;
 
 const MOST_CALLS: u32 = 256;
 
@@ -39,15 +39,6 @@ fn read_line(s: &[u8], at: usize) -> Option<(Call, usize)>
     Some((Call { n, a, b, c }, next))
 }
 
-// Writes call number i.
-fn write_call(calls: &mut [u32; 1024], i: usize, call: Call)
-    requires { i < 256 }
-    ensures { calls.new ≡ sets calls.old (4 * i) (call.n ∷ call.a ∷ call.b ∷ call.c ∷ []) }
-{
-    let base = 4 * i;
-    calls[base..base + 4].copy_from_slice(&[call.n, call.a, call.b, call.c]);
-}
-
 // Reads every line, 256 at the most, and says how many.
 pub fn read_calls(s: &[u8], calls: &mut [u32; 1024]) -> Result<u32, BadLine>
     ensures { TextRead s.now calls.old calls.new result }
@@ -60,7 +51,7 @@ pub fn read_calls(s: &[u8], calls: &mut [u32; 1024]) -> Result<u32, BadLine>
             return Err(BadLine { line: n + 1 });
         }
         let (call, next) = read_line(s, at).ok_or(BadLine { line: n + 1 })?;
-        write_call(calls, n as usize, call);
+        write_row(calls, n as usize, [call.n, call.a, call.b, call.c]);
         at = next;
         n += 1;
     }

@@ -8,7 +8,7 @@ use Rattle.calls.proofs.ask.Goals as goal
 pub ask_offset-requires : goal.ask_offset-requires
 ask_offset-requires c =
     let fit = c.requires in
-    (fit.node_room, fits_wider _ _ _ _ _ _ fit.few_heads fit.few_ports fit.live)
+    fits_wider _ _ _ _ _ _ fit.few_heads fit.few_ports fit.live
 
 pub returns-in-9 : goal.returns-in-9
 unfolding question

@@ -1,5 +1,5 @@
 -- An add that is refused leaves every lent word; one that is answered with done can be done, and leaves what it leaves.
-use mathlib.Core.Path.{refl, sym, ap, ◌∙◌}
+use mathlib.Core.Path.{sym, ap, ◌∙◌}
 use Rattle.std.specs.Prelude.{Err}
 use Rattle.std.proofs.lemmas.Result.{err_from_is_err_and}
 use Rattle.edits.specs.Answer.{is_done}
@@ -26,4 +26,4 @@ pub returns-clause-call : goal.returns-clause-call
 unfolding add_call
 returns-clause-call c =
     let v = c.view-view.ensures in
-    left_done _ _ _ _ (sym (rw (v.slots, v.links, v.heads) at c.add_answer.ensures) ∙ c.in_ok-values.was) c.add.ensures.store refl
+    left_done _ _ _ _ (sym (rw (v.slots, v.links, v.heads) at c.add_answer.ensures) ∙ c.in_ok-values.was) c.add.ensures.store

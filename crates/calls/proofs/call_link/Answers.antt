@@ -31,4 +31,3 @@ returns-clause-call c =
     let v = c.view-view.ensures in
     left_done _ _ _ _ (sym (rw (v.owners, v.links) at c.link_answer.ensures) ∙ c.in_ok-values.was)
     (record { slots_after = refl; links_after = c.join.ensures; owners_after = refl; heads_after = refl; counters_after = c.link_counted.ensures })
-    refl

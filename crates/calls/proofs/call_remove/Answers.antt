@@ -13,17 +13,17 @@ unfolding remove_call remove_answer
 returns-in_err-meta-clause-call c =
     let v = c.view-view.ensures in
     let p = err_from_is_err_and c.from_residual.result c.from_residual.ensures.1 in
-    left_refused _ _ _ _ (sym (live_missed _ _ _ _ (sym (rw (c.live_node.ensures, v.slots) at c.ok_or.ensures.value) ∙ c.in_err-meta.was))) (p.1 ∙ ap Err p.2)
+    left_refused _ _ _ _ (sym (live_missed _ _ _ _ (sym (rw (c.live.ensures, v.slots) at c.ok_or.ensures.value) ∙ c.in_err-meta.was))) (p.1 ∙ ap Err p.2)
 
 pub remove-requires : goal.remove-requires
 remove-requires c =
     let v = c.view-view.ensures in
-    let live = live_found _ _ _ (sym (rw (c.live_node.ensures, v.slots) at c.ok_or.ensures.value) ∙ c.in_ok-meta.was) in
+    let live = live_found _ _ _ (sym (rw (c.live.ensures, v.slots) at c.ok_or.ensures.value) ∙ c.in_ok-meta.was) in
     (c.requires, node_below _ _ _ _ live, node_entry_lem _ _ _ _ live)
 
 pub returns-clause-call : goal.returns-clause-call
 unfolding remove_call remove_answer
 returns-clause-call c =
     let v = c.view-view.ensures in
-    rw (live_found _ _ _ (sym (rw (c.live_node.ensures, v.slots) at c.ok_or.ensures.value) ∙ c.in_ok-meta.was))
-    (left_done _ _ _ _ refl c.remove.ensures.store refl)
+    rw (live_found _ _ _ (sym (rw (c.live.ensures, v.slots) at c.ok_or.ensures.value) ∙ c.in_ok-meta.was))
+    (left_done _ _ _ _ refl c.remove.ensures.store)

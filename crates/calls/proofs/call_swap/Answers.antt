@@ -27,4 +27,3 @@ returns-clause-call c =
     let is = c.swap.ensures in
     left_done _ _ _ _ (sym c.swap_answer.ensures ∙ c.in_ok-values.was)
     (record { slots_after = is.slots_after; links_after = refl; owners_after = is.owners_after; heads_after = refl; counters_after = is.counters_after })
-    refl

@@ -32,4 +32,3 @@ returns-clause-call c =
     let v = c.view-view.ensures in
     left_done _ _ _ _ (sym (rw (v.owners, v.links) at c.unlink_answer.ensures) ∙ c.in_ok-values.was)
     (record { slots_after = refl; links_after = c.cut-wires.ensures.0; owners_after = refl; heads_after = refl; counters_after = c.links_uncounted.ensures ∙ ap (links_uncounted c.args.counters) c.cut-wires.ensures.1 })
-    refl

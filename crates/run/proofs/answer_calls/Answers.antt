@@ -1,5 +1,7 @@
-use mathlib.Core.Path.{refl, ◌∙◌}
+use mathlib.Core.Path.{refl, sym, ◌∙◌}
 use native.Mathlib.Omega.{arith}
+use borrow.Author.Rules.{rules}
+use Rattle.std.specs.Prelude.{Ok}
 use Rattle.edits.specs.Store.{store_in}
 use Rattle.run.specs.Run.{CanAnswer}
 use Rattle.run.proofs.Steps.{stands_first, stands_next, stands_last, stands_answers, stands_fit, stands_room}
@@ -7,7 +9,7 @@ use Rattle.run.proofs.answer_calls.Goals as goal
 
 pub loop-place-init : goal.loop-place-init
 loop-place-init c =
-    record { memory = record { slots = refl; links = refl; owners = refl; heads = refl }; stands = stands_first (store_in c.args.tables.now c.args.counters) _ _ _ }
+    record { memory = record { slots = refl; links = refl; owners = refl; heads = refl }; recorded = refl; stands = stands_first (store_in c.args.tables.now c.args.counters) _ _ _ }
 
 pub dispatch-done-requires : goal.dispatch-done-requires
 dispatch-done-requires c =
@@ -20,9 +22,10 @@ write_answer-requires c =
 pub loop-place-preserved : goal.loop-place-preserved
 loop-place-preserved c =
     let before = c.loop-place.invariant in
-    let same = c.dispatch-done.ensures.memory in
+    let same = c.dispatch-done.ensures.memory.0 in
     record {
       memory = record { slots = same.slots ∙ before.memory.slots; links = same.links ∙ before.memory.links; owners = same.owners ∙ before.memory.owners; heads = same.heads ∙ before.memory.heads };
+      recorded = c.dispatch-done.ensures.memory.1 ∙ before.recorded;
       stands = stands_next before.stands (omega (arith, c.loop-place-test.true, c.requires.whole_calls)) c.read_call-call.ensures c.dispatch-done.ensures.call c.from.ensures c.write_answer.ensures;
     }
 
@@ -35,4 +38,7 @@ pub returns-clause-memory : goal.returns-clause-memory
 returns-clause-memory c = c.loop-place.invariant.memory
 
 pub returns-clause-calls : goal.returns-clause-calls
-returns-clause-calls c = stands_last c.loop-place.invariant.stands (omega (arith, c.requires.whole_calls)) refl
+returns-clause-calls c =
+    let said = stands_last c.loop-place.invariant.stands {r = record { records = Ok c.loop-place.records.to.at; counters = c.loop-place.after }} (omega (arith, c.requires.whole_calls)) refl in
+    let same = sym c.loop-place.invariant.recorded in
+    search (rules, said, same)

@@ -1,5 +1,6 @@
--- After each call the tables, the answers and the log are those of its definition, and the tables are the ones that were lent.
+-- After each call the tables, the answers and the log are those of its definition, and tables and log are the ones that were lent.
 use Rattle.edits.specs.Store.{store_in, SameMemory}
+use Rattle.renumber.specs.Records.{SameLog}
 use Rattle.run.proofs.Steps.{Stands}
 use Rattle.run.proofs.answer_calls.Given as goal
 
@@ -7,5 +8,7 @@ abbrev pub invariant-loop-place : goal.invariant-loop-place
 invariant-loop-place l =
     record {
       memory : SameMemory l.initial.tables l.tables;
-      stands : Stands (store_in l.initial.tables l.initial.after) l.calls l.initial.answers l.initial.log (store_in l.tables l.after) l.answers l.log l.at l.place;
+      recorded : SameLog l.initial.records l.records;
+      stands :
+          Stands (store_in l.initial.tables l.initial.after) l.calls l.initial.answers l.initial.records.words.now (store_in l.tables l.after) l.answers l.records.words.now l.records.to.at l.place;
     }

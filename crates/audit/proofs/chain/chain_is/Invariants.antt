@@ -10,4 +10,4 @@ pub record Walked (slots : List ℕ) (mark head n word before i : ℕ) : Type 0 
   pub back : Walk slots mark word before (n - i) → Walk slots mark head 0 n
 
 abbrev pub invariant-loop : goal.invariant-loop
-invariant-loop l = Walked l.slots l.mark l.head l.n l.word l.before l.counter
+invariant-loop l = Walked l.slots.words.now l.slots.mark l.head l.n l.word l.before l.counter

@@ -5,16 +5,16 @@ use native.Mathlib.Omega.{arith}
 use lib.ListN.{get_or}
 use Rattle.audit.proofs.DecideLaws.{decided_not}
 use Rattle.audit.proofs.ports.mate_holds.Goals as goal
-use Rattle.audit.proofs.ports.mate_holds.Goals.{then-mate-mark, else-mate-mark}
+use Rattle.audit.proofs.ports.mate_holds.Goals.{then-mate-ports, else-mate-ports}
 
 pub returns-else-faces_away : goal.returns-else-faces_away
 returns-else-faces_away c =
     let mate = c.in-Some.mate in
-    let e : get_or c.args.links.now c.args.port 0 ≡ suc mate = omega (arith, c.in-Some.ensures) in
+    let e : get_or c.args.ports.links.now c.args.port 0 ≡ suc mate = omega (arith, c.in-Some.ensures) in
     rw c.if-faces_away.false
     (decided_not
     (λ h.
-    elim c.if-mate-mark.branch [
-      | then-mate-mark w ↦ w.faces_away.ensures.not_so (sym w.value-is ∙ c.if-faces_away.false) ((h mate e).there, λ same. (h mate e).across (sym c.requires.5 ∙ same))
-      | else-mate-mark w ↦ (h mate e).there (c.requires.6 mate (omega arith))
+    elim c.if-mate-ports.branch [
+      | then-mate-ports w ↦ w.faces_away.ensures.not_so (sym w.value-is ∙ c.if-faces_away.false) ((h mate e).there, λ same. (h mate e).across (sym c.requires.3 ∙ same))
+      | else-mate-ports w ↦ (h mate e).there (c.requires.4 mate (omega arith))
     ]))

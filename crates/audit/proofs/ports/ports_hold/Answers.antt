@@ -38,7 +38,7 @@ loop-port-init c = record { mated = below_none _; live = refl; wired = refl }
 pub mate_holds-requires : goal.mate_holds-requires
 mate_holds-requires c =
     let said = word_port _ _ (sym c.port_entry.ensures ∙ c.in-Some.is) in
-    (c.requires.0, c.requires.1, c.requires.2, c.loop-port-test.true, said.0, said.1, c.requires.3)
+    (c.requires.2, c.loop-port-test.true, said.0, said.1, c.requires.3)
 
 pub returns-then-not-mate_holds : goal.returns-then-not-mate_holds
 returns-then-not-mate_holds c =

@@ -47,8 +47,8 @@ none slots = refl
 
 pub returns : goal.returns
 returns c =
-    let slots = c.args.slots.now in
-    let mark = c.args.mark in
+    let slots = c.args.slots.words.now in
+    let mark = c.args.slots.mark in
     let count : c.count.result ≡ length (filter (λ k. not (eqb (slot_word slots k 1) 0)) (range_with_len 0 mark)) =
     count_from_yields_List c.filter.result _ c.count.ensures.ran
     (YieldsList-from_filter _ (λ k. not (eqb (slot_word slots k 1) 0)) (YieldsList-at c.filter.ensures.source (YieldsList-from_range 0 mark mark (cc) (omega arith))) c.filter.ensures.closure (λ x b q k. search (rules, tests))) in

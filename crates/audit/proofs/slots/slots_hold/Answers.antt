@@ -29,8 +29,8 @@ each_below P n false (k, l, fails) =
 pub returns : goal.returns
 returns c =
     let a = c.args in
-    each_below (λ k. SlotSays a.heads (slot_word a.slots.now k 3) (node_entry a.slots.now k)) a.mark _
-    (cases_from_all _ _ _ (λ k. SlotSays a.heads (slot_word a.slots.now k 3) (node_entry a.slots.now k)) (λ k. SlotSays a.heads (slot_word a.slots.now k 3) (node_entry a.slots.now k) → ⊥) c.all.ensures.ran
-    (YieldsList-from_range 0 a.mark a.mark (cc) (omega arith))
+    each_below (λ k. SlotSays a.heads (slot_word a.slots.words.now k 3) (node_entry a.slots.words.now k)) a.slots.mark _
+    (cases_from_all _ _ _ (λ k. SlotSays a.heads (slot_word a.slots.words.now k 3) (node_entry a.slots.words.now k)) (λ k. SlotSays a.heads (slot_word a.slots.words.now k 3) (node_entry a.slots.words.now k) → ⊥) c.all.ensures.ran
+    (YieldsList-from_range 0 a.slots.mark a.slots.mark (cc) (omega arith))
     (λ x q k. search (rules, tests))
     (λ x q k. search (rules, tests)))

@@ -20,13 +20,13 @@ pack_ports-ports-requires c =
       slots_inside = fit.node_room;
       slots_fit = fits_wider _ _ _ _ 32768 1048576 fit.few_heads fit.few_ports fit.live;
       owners_inside = fit.owners_inside;
-      recorded = subst (RecordRoom a.log.now a.to) fit.true_ports c.requires.1;
+      recorded = subst (RecordRoom a.log.now.words.now a.log.now.to) fit.true_ports c.requires.1;
     }
 
 pub drop_slabs-requires : goal.drop_slabs-requires
 drop_slabs-requires c =
     let fit = c.requires.0 in
-    rw c.pack_ports-ports.ensures.slots_after (
+    rw c.pack_ports-ports.ensures.words.slots_after (
       rw followed_slots-length (omega arith),
       followed_slots_fit _ _ _ _ _ _ fit.node_room fit.owners_inside (fits_wider _ _ _ _ 32768 1048576 fit.few_heads fit.few_ports fit.live),
     )
@@ -34,7 +34,7 @@ drop_slabs-requires c =
 pub returns-clause-words : goal.returns-clause-words
 unfolding ports_compacted emptied_above
 returns-clause-words c =
-    let packed = c.pack_ports-ports.ensures in
+    let packed = c.pack_ports-ports.ensures.words in
     record {
       store_after = record {
         slots_after = rw packed.slots_after at c.drop_slabs.ensures;

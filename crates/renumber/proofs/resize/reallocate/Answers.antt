@@ -15,9 +15,9 @@ move_kept-requires c = can_move_kept c.requires c.slab_size-size.ensures c.take_
 
 pub free_old-requires : goal.free_old-requires
 free_old-requires c =
-    can_free_old c.requires c.slab_size-size.ensures c.take_slab-first.ensures c.own_ports.ensures c.move_kept.ensures
+    can_free_old c.requires c.slab_size-size.ensures c.take_slab-first.ensures c.own_ports.ensures c.move_kept.ensures.words
 
 pub returns-clause-words : goal.returns-clause-words
 returns-clause-words c =
-    reallocated_parts c.requires c.slab_size-size.ensures c.take_slab-first.ensures c.own_ports.ensures c.move_kept.ensures c.write_change.ensures
+    reallocated_parts c.requires c.slab_size-size.ensures c.take_slab-first.ensures c.own_ports.ensures c.move_kept.ensures.words c.write_change.ensures
     c.free_old.ensures

@@ -2,6 +2,8 @@
 use mathlib.Core.Path.{sym, ◌∙◌, ap}
 use native.Mathlib.Omega.{arith}
 use Rattle.slabs.specs.declared.counters.Counters.{Counters}
+use Rattle.renumber.proofs.RecordLaws.{later_again}
+use Rattle.renumber.proofs.ResizeLaws.{records_in_place, records_into}
 use Rattle.renumber.proofs.ResizeParts.{small_change, few_live, can_cut, can_shift, resized_in_place_lem, can_reallocate, resized_into_lem}
 use Rattle.renumber.proofs.resize.resize.Goals as goal
 
@@ -14,23 +16,35 @@ ports_recounted-cut-requires c =
 
 pub shift-requires : goal.shift-requires
 shift-requires c =
-    rw (c.past-next.ensures, c.inlets_removed.ensures, c.outlets_removed.ensures)
-    (can_shift c.requires.0 c.requires.1 c.cut_removed-wires.ensures (sym c.is_in_place.ensures ∙ c.if-is_in_place.true))
+    rw c.cut_removed-wires.ensures.next
+    (can_shift c.requires.0 c.requires.1 c.cut_removed-wires.ensures.words (sym c.is_in_place.ensures ∙ c.if-is_in_place.true))
 
 pub returns-then-is_in_place-clause-words : goal.returns-then-is_in_place-clause-words
 returns-then-is_in_place-clause-words c =
-    resized_in_place_lem c.requires.0 c.requires.1 c.cut_removed-wires.ensures (sym c.is_in_place.ensures ∙ c.if-is_in_place.true)
+    resized_in_place_lem c.requires.0 c.requires.1 c.cut_removed-wires.ensures.words (sym c.is_in_place.ensures ∙ c.if-is_in_place.true)
     (rw c.links_uncounted.ensures at c.ports_recounted-cut.ensures)
-    (rw (c.past-next.ensures, c.inlets_removed.ensures, c.outlets_removed.ensures) at c.shift.ensures) c.write_change.ensures
+    (rw c.cut_removed-wires.ensures.next at c.shift.ensures.words) c.write_change.ensures
 
 pub reallocate-requires : goal.reallocate-requires
 reallocate-requires c =
-    rw (c.past-next.ensures, c.inlets_removed.ensures, c.outlets_removed.ensures)
-    (can_reallocate c.requires.0 c.requires.1 c.cut_removed-wires.ensures (rw c.links_uncounted.ensures at c.ports_recounted-cut.ensures)
+    rw c.cut_removed-wires.ensures.next
+    (can_reallocate c.requires.0 c.requires.1 c.cut_removed-wires.ensures.words (rw c.links_uncounted.ensures at c.ports_recounted-cut.ensures)
     (sym c.is_in_place.ensures ∙ c.if-is_in_place.false))
 
 pub returns-clause-words : goal.returns-clause-words
 returns-clause-words c =
-    resized_into_lem c.requires.0 c.requires.1 c.cut_removed-wires.ensures (rw c.links_uncounted.ensures at c.ports_recounted-cut.ensures)
+    resized_into_lem c.requires.0 c.requires.1 c.cut_removed-wires.ensures.words (rw c.links_uncounted.ensures at c.ports_recounted-cut.ensures)
     (sym c.is_in_place.ensures ∙ c.if-is_in_place.false)
-    (rw (c.past-next.ensures, c.inlets_removed.ensures, c.outlets_removed.ensures) at c.reallocate.ensures.words)
+    (rw c.cut_removed-wires.ensures.next at c.reallocate.ensures.words)
+
+pub returns-then-is_in_place-clause-next : goal.returns-then-is_in_place-clause-next
+returns-then-is_in_place-clause-next c =
+    rw
+    (c.shift.ensures.next, c.cut_removed-wires.ensures.next, records_in_place c.args.change (sym c.is_in_place.ensures ∙ c.if-is_in_place.true))
+    (later_again _ _ _)
+
+pub returns-clause-next : goal.returns-clause-next
+returns-clause-next c =
+    rw
+    (c.reallocate.ensures.next, c.cut_removed-wires.ensures.next, records_into c.args.change (sym c.is_in_place.ensures ∙ c.if-is_in_place.false))
+    (later_again _ _ _)

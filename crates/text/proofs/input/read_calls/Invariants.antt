@@ -1,9 +1,8 @@
 -- The lines before the place are good; the line there is taken, or is the first bad one.
-use Prim.Native.Nat.{ℕ, ◌-◌, ◌≤◌}
+use Prim.Native.Nat.{ℕ, ◌-◌, ◌*◌, ◌≤◌}
 use mathlib.Core.Path.{◌≡◌}
 use mathlib.Core.List.{List, ◌++◌}
 use lib.ListN.{length, drop}
-use lib.Seq.{sets}
 use Rattle.calls.specs.declared.Call.{Call}
 use Rattle.text.specs.Lines.{AllSmall, call_text, call_words}
 use Rattle.text.proofs.input.read_calls.Given as goal
@@ -16,7 +15,7 @@ pub record Passed (s words₀ words : List ℕ) (at n : ℕ) : Type 0 where
   pub counted : n ≡ length calls
   pub few : n ≤ 256
   pub within : at ≤ length s
-  pub wrote : words ≡ sets words₀ 0 (call_words calls)
+  pub wrote : words ≡ call_words calls ++ drop (4 * n) words₀
 
 abbrev pub invariant-loop-at : goal.invariant-loop-at
 invariant-loop-at l = Passed l.s l.initial.calls l.calls l.at l.n
