@@ -1,20 +1,24 @@
 // Rule 3: the free slots are one doubly linked chain. A slot can be met only once, since its previous is the slot that led to it.
-ghost use Rattle.std.specs.Prelude.{suc, ◌*◌, ◌≤◌, length};
-ghost use Rattle.slabs.specs.NodeEntry.{width};
+ghost use Rattle.std.specs.Prelude.{suc, ◌≡◌, ◌*◌, ◌≤◌, length, MatchOption};
+ghost use Rattle.slabs.specs.NodeEntry.{width, slot_word};
 ghost use Rattle.audit.specs.Decides.{Decides};
 ghost use Rattle.audit.specs.Parts.{LinkHolds, Walk, FreeChainHolds};
 
 use crate::slots;
 use edits::below::Slots;
 use slabs::counters::Counters;
-use slabs::node_entry::WIDTH;
+use slabs::node_entry::NodeEntry;
 
-// Whether a free slot below the mark stands here whose previous is the slot before it.
-fn link_holds(slots: Slots<'_>, slot: u32, before: u32) -> bool
-    ensures { Decides result (LinkHolds slots.entry.words.now slots.entry.mark (suc slot) before) }
+// The next of the free slot below the mark that stands here, where its previous is the slot before it.
+#[tactic(auto, unfolding(edits::specs::Store::node_at, slabs::specs::NodeEntry::node_entry))]
+fn next_of(slots: Slots<'_>, slot: u32, before: u32) -> Option<u32>
+    ensures { MatchOption result (LinkHolds slots.entry.words.now slots.entry.mark (suc slot) before → ⊥) (λ next. LinkHolds slots.entry.words.now slots.entry.mark (suc slot) before × (next ≡ slot_word slots.entry.words.now slot 2)) }
 {
-    let base = WIDTH * slot as usize;
-    slot < slots.mark && slots.words[base + 1] == 0 && slots.words[base] == before
+    // A slot at or above the mark is given as free too.
+    match slots.at(slot) {
+        NodeEntry::Free { previous, next } if slot < slots.mark && previous == before => Some(next),
+        _ => None,
+    }
 }
 
 // Walks the chain from the head over exactly n slots.
@@ -27,16 +31,17 @@ fn chain_is(slots: Slots<'_>, head: u32, n: u32) -> bool
         let Some(slot) = word.checked_sub(1) else {
             return false;
         };
-        if !link_holds(slots, slot, before) {
+        let Some(next) = next_of(slots, slot, before) else {
             return false;
-        }
+        };
         before = word;
-        word = slots.words[WIDTH * slot as usize + 2];
+        word = next;
     }
     word == 0
 }
 
-// Rule 3, and rule 7's count of nodes: as many slots are on the chain as are not live.
+// Rule 3, and rule 7's count of nodes: as many slots are on the chain as are not live. It takes the counters, which have the mark: in a
+// `Slots` beside them the mark would stand twice, and a clause would say that both are one.
 pub fn free_chain_holds(slots: &[u32], counters: Counters) -> bool
     requires { width * counters.nodemark ≤ length slots.now }
     ensures { Decides result (FreeChainHolds slots.now counters) }

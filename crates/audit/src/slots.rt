@@ -1,5 +1,5 @@
 // Rule 2, slot by slot.
-ghost use Rattle.std.specs.Prelude.{◌≡◌, ◌+◌, ◌*◌, ◌≤◌, length};
+ghost use Rattle.std.specs.Prelude.{◌≡◌, ◌*◌, ◌≤◌, ◌<◌, length};
 ghost use Rattle.slabs.specs.NodeEntry.{width, slot_word, node_entry};
 ghost use Rattle.edits.specs.Counts.{live_slots};
 ghost use Rattle.sound.specs.Sound.{LiveSlot, SlotSays};
@@ -22,13 +22,15 @@ fn live_holds(meta: NodeMeta, heads: usize) -> bool
 }
 
 // Rule 2 for one slot.
-fn slot_holds(slots: &[u32], heads: usize, slot: usize) -> bool
-    requires { width * slot + width ≤ length slots.now }
-    ensures { Decides result (SlotSays heads (slot_word slots.now slot 3) (node_entry slots.now slot)) }
+#[tactic(auto, unfolding(edits::specs::Store::node_at))]
+fn slot_holds(slots: Slots<'_>, heads: usize, slot: u32) -> bool
+    requires { slot < slots.mark }
+    ensures { Decides result (SlotSays heads (slot_word slots.entry.words.now slot 3) (node_entry slots.entry.words.now slot)) }
 {
-    match slabs::node_entry::read_slot(slots, slot) {
+    match slots.at(slot) {
         NodeEntry::Node(meta) => live_holds(meta, heads),
-        NodeEntry::Free { .. } => slots[WIDTH * slot + 3] == 0,
+        // The fourth word of a free slot is no part of what it says, so it is read by its place.
+        NodeEntry::Free { .. } => slots.words[WIDTH * slot as usize + 3] == 0,
     }
 }
 
@@ -36,7 +38,7 @@ fn slot_holds(slots: &[u32], heads: usize, slot: usize) -> bool
 pub fn slots_hold(slots: Slots<'_>, heads: usize) -> bool
     ensures { Decides result (SlotsHold slots.entry.words.now heads slots.entry.mark) }
 {
-    (0..slots.mark as usize).all(|slot| slot_holds(slots.words, heads, slot))
+    (0..slots.mark).all(|slot| slot_holds(slots, heads, slot))
 }
 
 // How many slots below the mark are live.
@@ -44,6 +46,6 @@ pub fn live_slots(slots: Slots<'_>) -> u32
     ensures { result ≡ live_slots slots.entry.words.now slots.entry.mark }
 {
     (0..slots.mark)
-        .filter(|slot| slots.words[WIDTH * *slot as usize + 1] != 0)
+        .filter(|slot| slots.live(*slot).is_some())
         .count() as u32
 }

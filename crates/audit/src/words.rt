@@ -10,7 +10,7 @@ pub fn blank_from(table: &[u32], from: usize) -> bool
     table[from.min(table.len())..].iter().all(|word| *word == 0)
 }
 
-// Whether n words from `first` on are this word.
+// Whether n words from `first` on are this word: places of the whole table, as `RunIs` has them.
 pub fn run_is(table: &[u32], first: usize, n: usize, word: u32) -> bool
     requires { first + n ≤ length table.now }
     ensures { Decides result (RunIs table.now first n word) }
@@ -18,7 +18,8 @@ pub fn run_is(table: &[u32], first: usize, n: usize, word: u32) -> bool
     table[first..first + n].iter().all(|held| *held == word)
 }
 
-// Takes n places from `first` on: each must be 0 and becomes 1.
+// Takes n places from `first` on: each must be 0 and becomes 1. It works over the whole table with a place and a number, for its promise
+// says that the words outside stay.
 pub fn claim(scratch: &mut [u32], first: usize, n: usize) -> bool
     requires { first + n ≤ length scratch.old }
     ensures { Claim scratch.old first n scratch.new result }

@@ -1,21 +1,36 @@
--- What an answer says of the call.
+-- What is known of a call that is answered with done.
 use Prim.Native.Nat.{ℕ, ◌<◌}
-use mathlib.Core.Path.{◌≡◌, refl}
-use mathlib.Core.Bool.{Bool, true, false}
-use lib.Dec.{leb}
-use borrow.Author.Tests.{leb-false}
-use Rattle.slabs.specs.Choice.{pick}
-use Rattle.edits.specs.Answer.{is_done, done}
+use mathlib.Core.Path.{◌≡◌, ap}
+use mathlib.Core.List.{List}
+use native.Mathlib.Omega.{arith}
+use lib.ListN.{length}
+use Rattle.std.specs.Prelude.{Ok}
+use Rattle.slabs.specs.declared.counters.Counters.{Counters}
+use Rattle.edits.specs.Store.{store_of}
+use Rattle.edits.specs.Answer.{is_done}
+use Rattle.edits.specs.Fit.{Fit, CanAdd}
+use Rattle.edits.specs.Steps.{add_answer}
+use Rattle.edits.specs.Linking.{link_answer, unlink_answer}
 use Rattle.edits.specs.Swap.{swap_answer}
-use Rattle.edits.specs.declared.answer.Refusal.TheVariants.{NoNode}
-use Rattle.std.specs.Prelude.{Err}
+use Rattle.edits.proofs.AnswerLaws.{add_done}
+use Rattle.edits.proofs.StoreLaws.{port_below}
 
--- A swap that is answered with done is of two slots below the mark.
-pub swap_done : (mark a b : ℕ) → is_done (swap_answer mark a b) ≡ true → (a < mark) × (b < mark)
+-- An add can be done.
+pub can_add : {slots links owners heads : List ℕ} {c : Counters} {inlets outlets : ℕ} {values : ℕ × ℕ × ℕ} → Fit (store_of slots links owners heads c)
+    → add_answer slots (length links) heads c inlets outlets ≡ Ok values → CanAdd (store_of slots links owners heads c) inlets outlets
+can_add {slots} {links} {owners} {heads} {c} {inlets} {outlets} fit d = add_done (store_of slots links owners heads c) inlets outlets (ap is_done d)
+
+-- Both ends of a wire that is made stand below the mark.
+pub link_done : (owners links : List ℕ) (mark a b : ℕ) {values : ℕ × ℕ × ℕ} → link_answer owners links mark a b ≡ Ok values → (a < mark) × (b < mark)
+unfolding link_answer
+link_done owners links mark a b d = grind (arith, port_below)
+
+-- So does the port whose wire is cut.
+pub unlink_done : (owners links : List ℕ) (mark port : ℕ) {values : ℕ × ℕ × ℕ} → unlink_answer owners links mark port ≡ Ok values → port < mark
+unfolding unlink_answer
+unlink_done owners links mark port d = grind (arith, port_below)
+
+-- A swap is of two slots below the mark.
+pub swap_done : (mark a b : ℕ) {values : ℕ × ℕ × ℕ} → swap_answer mark a b ≡ Ok values → (a < mark) × (b < mark)
 unfolding swap_answer
-swap_done mark a b h = let e = go (leb mark a) (leb mark b) h in (leb-false mark a e.0, leb-false mark b e.1)
-  where
-    go : (t u : Bool) → is_done (pick t (Err (NoNode a)) (pick u (Err (NoNode b)) (done 0 0 0))) ≡ true → (t ≡ false) × (u ≡ false)
-    go true u e = (cc, cc)
-    go false true e = (cc, cc)
-    go false false e = (refl, refl)
+swap_done mark a b d = grind arith

@@ -1,6 +1,4 @@
 -- The laws that the proofs of the dispatch cite.
-pub mod BecameLaws
+pub mod QuietLaws
 pub mod AnswerLaws
-pub mod LinkAnswerLaws
 pub mod RoomLaws
-pub mod DispatchLaws

@@ -17,7 +17,7 @@ use renumber::resize::Change;
 use renumber::{compact, resize};
 use slabs::counters::Counters;
 
-// A call: its number and three words.
+// A call: any four words, its number first, for numbers that no call has are answered too.
 #[derive(Clone, Copy, PartialEq, Eq)]
 pub struct Call {
     pub n: u32,
@@ -33,7 +33,7 @@ pub struct Outcome {
     pub counters: Counters,
 }
 
-// What a call that is done leaves: its three values and the counters.
+// What a call that is done leaves: its three values and the counters. A refused one leaves none, so that `?` can hand it on.
 #[derive(Clone, Copy)]
 pub struct Done {
     pub values: (u32, u32, u32),
@@ -60,6 +60,7 @@ fn call_clear(tables: &mut Tables<'_>, counters: Counters) -> Done
 }
 
 // Call 1.
+#[tactic(auto, using(crate::proofs::AnswerLaws::can_add), unfolding(crate::specs::Call::add_call, crate::specs::Call::decided))]
 fn call_add(
     tables: &mut Tables<'_>,
     counters: Counters,
@@ -86,6 +87,7 @@ fn call_add(
 }
 
 // Call 2.
+#[tactic(auto, using(edits::proofs::StoreLaws::node_below, edits::proofs::StoreLaws::node_entry_lem), unfolding(crate::specs::Call::remove_call, edits::specs::Steps::remove_answer, crate::specs::Call::decided))]
 fn call_remove(tables: &mut Tables<'_>, counters: Counters, node: u32) -> Result<Done, Refusal>
     requires { Fit (store_in tables.old counters) }
     ensures memory { SameMemory tables.old tables.new }
@@ -103,7 +105,9 @@ fn call_remove(tables: &mut Tables<'_>, counters: Counters, node: u32) -> Result
     })
 }
 
-// Call 3. A step that has these counts already stays as it is.
+// Call 3. A step that has these counts already stays as it is. The slot was read for the answer too, and is read again for what it
+// holds: a second promise of the answer would have to tell both.
+#[tactic(auto, using(crate::proofs::QuietLaws::logged_nothing, crate::proofs::RoomLaws::changes_written, renumber::proofs::PackLaws::fits_wider), unfolding(crate::specs::Call::resize_call, crate::specs::Call::change_call, crate::specs::Call::decided, renumber::specs::Resize::resize_answer))]
 fn call_resize(
     tables: &mut Tables<'_>,
     log: &mut Log<'_>,
@@ -150,6 +154,7 @@ fn call_resize(
 }
 
 // Call 4.
+#[tactic(auto, using(crate::proofs::AnswerLaws::link_done), unfolding(crate::specs::Call::link_call, crate::specs::Call::decided))]
 fn call_link(tables: &mut Tables<'_>, counters: Counters, a: u32, b: u32) -> Result<Done, Refusal>
     requires { Fit (store_in tables.old counters) }
     ensures memory { SameMemory tables.old tables.new }
@@ -170,6 +175,7 @@ fn call_link(tables: &mut Tables<'_>, counters: Counters, a: u32, b: u32) -> Res
 }
 
 // Call 5.
+#[tactic(auto, using(crate::proofs::AnswerLaws::unlink_done), unfolding(crate::specs::Call::unlink_call, crate::specs::Call::decided))]
 fn call_unlink(tables: &mut Tables<'_>, counters: Counters, port: u32) -> Result<Done, Refusal>
     requires { Fit (store_in tables.old counters) }
     ensures memory { SameMemory tables.old tables.new }
@@ -190,6 +196,7 @@ fn call_unlink(tables: &mut Tables<'_>, counters: Counters, port: u32) -> Result
 }
 
 // Call 6.
+#[tactic(auto, using(crate::proofs::AnswerLaws::swap_done, edits::proofs::AnswerLaws::swap_fit), unfolding(crate::specs::Call::swap_call, crate::specs::Call::decided, edits::specs::Swap::swapped))]
 fn call_swap(tables: &mut Tables<'_>, counters: Counters, a: u32, b: u32) -> Result<Done, Refusal>
     requires { Fit (store_in tables.old counters) }
     ensures memory { SameMemory tables.old tables.new }
@@ -203,6 +210,7 @@ fn call_swap(tables: &mut Tables<'_>, counters: Counters, a: u32, b: u32) -> Res
 }
 
 // Call 7.
+#[tactic(auto, using(crate::proofs::RoomLaws::nodes_written, crate::proofs::QuietLaws::logged_nothing), unfolding(crate::specs::Call::compact_nodes_call, crate::specs::Call::decided, renumber::specs::Compact::nodes_compacted))]
 fn call_compact_nodes(
     tables: &mut Tables<'_>,
     log: &mut Log<'_>,
@@ -221,6 +229,7 @@ fn call_compact_nodes(
 }
 
 // Call 8.
+#[tactic(auto, using(crate::proofs::RoomLaws::compact_room, crate::proofs::RoomLaws::ports_written, crate::proofs::QuietLaws::logged_nothing), unfolding(crate::specs::Call::compact_ports_call, crate::specs::Call::decided))]
 fn call_compact_ports(
     tables: &mut Tables<'_>,
     log: &mut Log<'_>,
@@ -239,6 +248,7 @@ fn call_compact_ports(
 }
 
 // Calls 9 to 13, and numbers that no call has.
+#[tactic(auto, using(renumber::proofs::PackLaws::fits_wider), unfolding(crate::specs::Call::question))]
 fn ask(view: View<'_>, counters: Counters, call: Call) -> Answer
     requires { Fit (store_seen view counters) }
     ensures { result ≡ question (store_seen view.entry counters) call }
@@ -273,6 +283,7 @@ fn call_question(view: View<'_>, counters: Counters, call: Call) -> Result<Done,
 
 // Every call. Each number has one arm: 0 to 8 here, the questions' in `ask`. Names for the numbers would want a second match of the
 // same fourteen.
+#[tactic(auto, using(crate::proofs::QuietLaws::decided_quiet, crate::proofs::QuietLaws::logged_nothing), unfolding(crate::specs::Call::call_of, crate::specs::Call::add_call, crate::specs::Call::remove_call, crate::specs::Call::link_call, crate::specs::Call::unlink_call, crate::specs::Call::swap_call))]
 fn answer_call(
     tables: &mut Tables<'_>,
     log: &mut Log<'_>,

@@ -1,13 +1,12 @@
 -- The true counts are no greater than the marks: so a count that is kept true never grows past the tables.
 use Prim.Native.Nat.{ℕ, suc, zero, ◌≤◌}
 use mathlib.Core.List.{List}
-use mathlib.Core.Bool.{Bool, true, false}
 use native.Mathlib.Omega.{arith}
 use lib.ListN.{get_or}
 use lib.Dec.{eqb}
-use Rattle.slabs.specs.Choice.{pick}
 use Rattle.slabs.specs.Sums.{sum}
 use Rattle.slabs.specs.NodeEntry.{slot_word}
+use Rattle.slabs.proofs.ChoiceLaws.{pick_bit}
 use Rattle.edits.specs.Counts.{some, live_slots, live_ports}
 
 -- A sum of terms that are at most 1 is at most the number of its terms.
@@ -19,11 +18,7 @@ count_le f (suc n) h = omega (arith, count_le f n h, h n)
 -- A word counts once or not at all.
 pub some_le : (word : ℕ) → some word ≤ 1
 unfolding some
-some_le word = go (eqb word 0)
-  where
-    go : (t : Bool) → pick t 0 1 ≤ 1
-    go true = omega arith
-    go false = omega arith
+some_le word = pick_bit (eqb word 0)
 
 -- No more slots below slot k are live than there are,
 pub live_slots_le : (slots : List ℕ) (k : ℕ) → live_slots slots k ≤ k

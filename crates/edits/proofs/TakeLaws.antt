@@ -1,12 +1,11 @@
 -- What is taken lies inside the tables: the slot that an add takes, and the slab of its ports.
-use Prim.Native.Nat.{ℕ, suc, zero, ◌+◌, ◌*◌, ◌≤◌}
+use Prim.Native.Nat.{ℕ, suc, zero, ◌+◌, ◌-◌, ◌*◌, ◌≤◌}
 use mathlib.Core.Path.{◌≡◌, refl}
 use mathlib.Core.List.{List}
 use mathlib.Core.Bool.{true}
 use native.Mathlib.Omega.{arith}
-use native.Mathlib.Decide.{ℕ_discrete}
+use Rattle.std.proofs.lemmas.Grind.{common_steps}
 use lib.ListN.{length}
-use borrow.Author.Tests.{eq-eqb, ne_eqb, leb-true}
 use Rattle.slabs.specs.NodeEntry.{width}
 use Rattle.slabs.specs.Slab.{head_of, at_hand, taken_first}
 use Rattle.slabs.specs.declared.counters.Counters.{Counters}
@@ -17,11 +16,7 @@ use Rattle.edits.specs.FreeSlots.{slot_at_hand, next_slot}
 pub next_inside : (slots : List ℕ) (c : Counters) → slot_at_hand slots c ≡ true → c.freeslot ≤ c.nodemark → width * c.nodemark ≤ length slots
     → width * next_slot c + width ≤ length slots
 unfolding slot_at_hand next_slot
-next_inside slots c had head room = go (ℕ_discrete c.freeslot 0)
-  where
-    go : Dec (c.freeslot ≡ 0) → unfold next_slot in width * next_slot c + width ≤ length slots
-    go (yes e) = simp (eq-eqb _ _ e) (leb-true _ _ (simp (eq-eqb _ _ e) at had))
-    go (no n) = simp (ne_eqb _ _ n) (omega arith)
+next_inside slots c had head room = grind (arith, common_steps)
 
 -- A head word whose slab lies in the tables is inside them,
 pub head_inside : (word size room : ℕ) → 1 ≤ size → ((first : ℕ) → word ≡ suc first → first + size ≤ room) → word ≤ room
@@ -32,8 +27,4 @@ head_inside (suc first) size room one inside = omega (arith, inside first refl)
 pub taken_ends : (heads : List ℕ) (mark room size : ℕ) → at_hand heads mark room size ≡ true
     → ((first : ℕ) → head_of heads size ≡ suc first → first + size ≤ room) → taken_first heads mark size + size ≤ room
 unfolding taken_first
-taken_ends heads mark room size had inside = go (head_of heads size) refl
-  where
-    go : (word : ℕ) → head_of heads size ≡ word → unfold taken_first in taken_first heads mark size + size ≤ room
-    go zero e = rw e (at_hand_room heads mark room size e had)
-    go (suc first) e = rw (e, ne_eqb (suc first) 0 (omega arith)) (omega (arith, inside first e))
+taken_ends heads mark room size had inside = grind (arith, common_steps, at_hand_room, inside (head_of heads size - 1))

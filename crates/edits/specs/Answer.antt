@@ -1,6 +1,5 @@
 -- The answers (document 01, "Answer numbers"): the number and the three values of each.
 use Rattle.std.specs.Prelude.{ℕ, Bool, true, false, Result, Ok, Err}
-use Rattle.slabs.specs.PortEntry.{direction_word}
 use Rattle.edits.specs.declared.answer.Refusal.{Refusal}
 use Rattle.edits.specs.declared.answer.Refusal.TheVariants.{NoNode, NoPort, TooManyPorts, SlabTooLarge, NoSlot, NoSlab, LogFull, SameDirection, AlreadyLinked, NoSuchCall, OwnerNotLive, NotLinked}
 use Rattle.edits.specs.declared.answer.AnswerWords.{AnswerWords}
@@ -24,7 +23,7 @@ refusal_words SlabTooLarge = says 4 0 0 0
 refusal_words NoSlot = says 5 0 0 0
 refusal_words NoSlab = says 6 0 0 0
 refusal_words LogFull = says 7 0 0 0
-refusal_words (SameDirection a b direction) = says 8 a b (direction_word direction)
+refusal_words (SameDirection a b direction) = says 8 a b direction
 refusal_words (AlreadyLinked port) = says 9 port 0 0
 refusal_words NoSuchCall = says 10 0 0 0
 refusal_words OwnerNotLive = says 11 0 0 0

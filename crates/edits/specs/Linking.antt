@@ -14,7 +14,7 @@ use Rattle.std.specs.Prelude.{Err}
 abbrev pub pair_answer : List ℕ → ℕ → ℕ → Direction → Direction → Answer
 pair_answer links a b direction facing =
     pick (eqb (direction_word direction) (direction_word facing))
-    (Err (SameDirection a b direction))
+    (Err (SameDirection a b (direction_word direction)))
     (pick (eqb (get_or links a 0) 0) (pick (eqb (get_or links b 0) 0) (done a b 0) (Err (AlreadyLinked b))) (Err (AlreadyLinked a)))
 
 -- call 4. Code 2 names a also where b is the port that is not live

@@ -3,9 +3,10 @@ ghost use Rattle.std.specs.Prelude.{◌≡◌};
 ghost use Rattle.edits.specs.Answer.{says, refusal_words, answer_words};
 ghost use Rattle.edits.specs.declared.answer.Refusal.TheVariants.{NoSuchCall};
 
-use slabs::port_entry::{Direction, NoSuchDirection};
+use slabs::port_entry::NoSuchDirection;
 
-// Why a call is refused, with what the values of that answer need.
+// Why a call is refused, with the values of that answer. They are words, the direction too, and any word has its answer
+// (`answer_words`).
 #[derive(Clone, Copy, PartialEq, Eq)]
 pub enum Refusal {
     NoNode(u32),
@@ -15,7 +16,7 @@ pub enum Refusal {
     NoSlot,
     NoSlab,
     LogFull,
-    SameDirection(u32, u32, Direction),
+    SameDirection(u32, u32, u32),
     AlreadyLinked(u32),
     NoSuchCall,
     OwnerNotLive,
@@ -34,7 +35,7 @@ impl From<NoSuchDirection> for Refusal {
     }
 }
 
-// The words of an answer: its number and three values.
+// The words of an answer: its number and three values. The number is the word that is written; what it means is in `Refusal`.
 #[derive(Clone, Copy, PartialEq, Eq)]
 pub struct AnswerWords {
     pub code: u32,
@@ -66,7 +67,7 @@ impl From<Refusal> for AnswerWords {
             Refusal::NoSlot => words(5, 0, 0, 0),
             Refusal::NoSlab => words(6, 0, 0, 0),
             Refusal::LogFull => words(7, 0, 0, 0),
-            Refusal::SameDirection(a, b, direction) => words(8, a, b, u32::from(direction)),
+            Refusal::SameDirection(a, b, direction) => words(8, a, b, direction),
             Refusal::AlreadyLinked(port) => words(9, port, 0, 0),
             Refusal::NoSuchCall => words(10, 0, 0, 0),
             Refusal::OwnerNotLive => words(11, 0, 0, 0),

@@ -1,4 +1,5 @@
-// What stands below the marks: the slots that calls ask of, and the ports.
+// What stands below the marks: the slots that calls ask of, and the ports. They are made from their parts where the mark is known to lie
+// in the tables; a function that made them would ask for it in a clause again.
 ghost use Rattle.std.specs.Prelude.{◌≡◌, ◌*◌, ◌≤◌, length};
 ghost use Rattle.slabs.specs.NodeEntry.{width};
 ghost use Rattle.edits.specs.Store.{node_at, live_node, port_at};
@@ -40,7 +41,8 @@ impl Slots<'_> {
     }
 }
 
-// What a port's owner word says where it is below the mark; a port at or above it is not live.
+// What a port's owner word says where it is below the mark; a port at or above it is not live. It takes no `Ports`, which would ask its
+// callers for the links too.
 #[tactic(auto, unfolding(crate::specs::Store::port_at))]
 pub fn port_at(owners: &[u32], mark: u32, port: u32) -> Option<PortMeta>
     requires { mark ≤ length owners.now }

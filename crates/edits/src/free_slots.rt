@@ -6,7 +6,7 @@ ghost use Rattle.edits.specs.FreeSlots.{set_neighbour, slot_at_hand, next_slot, 
 use slabs::counters::Counters;
 use slabs::node_entry::{NodeEntry, WIDTH};
 
-// The words of a free slot that name its neighbours.
+// The words of a free slot that name its neighbours: places in its row, and numbers, as a const parameter is.
 pub const PREVIOUS: usize = 0;
 
 pub const NEXT: usize = 2;
@@ -17,8 +17,8 @@ pub fn set_neighbour<const WORD: usize>(slots: &mut [u32], word: u32, neighbour:
     requires { (width * word ≤ length slots.old) × (WORD < width) }
     ensures { slots.new ≡ set_neighbour WORD slots.old word neighbour }
 {
-    if word != 0 {
-        slots[WIDTH * (word - 1) as usize + WORD] = neighbour;
+    if let Some(slot) = word.checked_sub(1) {
+        slots[WIDTH * slot as usize + WORD] = neighbour;
     }
 }
 
@@ -35,11 +35,10 @@ pub fn slot_at_hand(slots: &[u32], counters: Counters) -> bool
 pub fn next_slot(counters: Counters) -> u32
     ensures { result ≡ next_slot counters }
 {
-    if counters.freeslot == 0 {
-        counters.nodemark
-    } else {
-        counters.freeslot - 1
-    }
+    counters
+        .freeslot
+        .checked_sub(1)
+        .unwrap_or(counters.nodemark)
 }
 
 // Takes it, and gives it with the counters after it. The slot's own words are for the caller to write.

@@ -7,19 +7,20 @@ use crate::below::Ports;
 use slabs::links::link_at;
 
 // What call 4 answers. Code 2 names `a` also where `b` is not live.
-#[tactic(auto, using(crate::proofs::StoreLaws::port_below), unfolding(crate::specs::Linking::link_answer))]
+#[tactic(auto, using(crate::proofs::StoreLaws::port_below), unfolding(crate::specs::Linking::link_answer, slabs::specs::Links::link_at))]
 pub fn link_answer(ports: Ports<'_>, a: u32, b: u32) -> Answer
     ensures { result ≡ link_answer ports.entry.owners.now ports.entry.links.now ports.entry.mark a b }
 {
     let here = ports.at(a).ok_or(Refusal::NoPort(a))?;
     let there = ports.at(b).ok_or(Refusal::NoPort(a))?; // not b
     if here.direction == there.direction {
-        return Err(Refusal::SameDirection(a, b, here.direction));
+        let direction = u32::from(here.direction);
+        return Err(Refusal::SameDirection(a, b, direction));
     }
-    if ports.links[a as usize] != 0 {
+    if link_at(ports.links, a as usize).is_some() {
         return Err(Refusal::AlreadyLinked(a));
     }
-    if ports.links[b as usize] != 0 {
+    if link_at(ports.links, b as usize).is_some() {
         return Err(Refusal::AlreadyLinked(b));
     }
     Ok((a, b, 0))

@@ -1,4 +1,4 @@
-// The questions, calls 9 to 13, and what they ask of a slot and of a port.
+// The questions, calls 9 to 13.
 ghost use Rattle.std.specs.Prelude.{◌≡◌, ◌+◌, ◌*◌, ◌≤◌, length};
 ghost use Rattle.slabs.specs.NodeEntry.{width};
 ghost use Rattle.edits.specs.Questions.{ask_node, ask_port, nth_port, ask_offset, ask_link, ask_counts};
@@ -19,7 +19,7 @@ pub fn ask_node(slots: Slots<'_>, node: u32) -> Answer
     Ok((m.inlets, m.outlets, m.capacity))
 }
 
-// Call 10.
+// Call 10. It takes no `Ports`, which would ask its callers for the links too.
 #[tactic(auto, unfolding(crate::specs::Questions::ask_port))]
 pub fn ask_port(slots: &[u32], owners: &[u32], counters: Counters, port: u32) -> Answer
     requires { (width * counters.nodemark ≤ length slots.now) × (counters.portmark ≤ length owners.now) }
@@ -31,11 +31,12 @@ pub fn ask_port(slots: &[u32], owners: &[u32], counters: Counters, port: u32) ->
         mark: counters.nodemark,
     };
     let m = below.live(here.node).ok_or(Refusal::OwnerNotLive)?;
-    let offset = port.saturating_sub(m.first);
-    match here.direction {
-        Direction::Incoming => Ok((here.node, 0, offset)),
-        Direction::Outgoing => Ok((here.node, 1, offset.saturating_sub(m.inlets))),
-    }
+    let place = port.saturating_sub(m.first);
+    let offset = match here.direction {
+        Direction::Incoming => place,
+        Direction::Outgoing => place.saturating_sub(m.inlets),
+    };
+    Ok((here.node, u32::from(here.direction), offset))
 }
 
 // The port at an offset, of n ports from `first` on.
@@ -49,7 +50,7 @@ fn nth_port(first: u32, n: u32, offset: u32) -> Answer
     Err(Refusal::NoPort(offset))
 }
 
-// Call 11.
+// Call 11. The direction is a word, for any word has its answer (`ask_offset`): 10 for one over 1.
 #[tactic(auto, using(crate::proofs::StoreLaws::node_below, crate::proofs::StoreLaws::node_entry_lem), unfolding(crate::specs::Questions::ask_offset))]
 pub fn ask_offset(slots: Slots<'_>, node: u32, direction: u32, offset: u32) -> Answer
     requires { SlotsFit slots.words.now slots.mark 32768 1048576 }

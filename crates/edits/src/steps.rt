@@ -24,7 +24,7 @@ fn new_slab_at_hand(heads: &[u32], mark: u32, room: usize, total: u32) -> bool
     total == 0 || slabs::slab::at_hand(heads, mark, room, total)
 }
 
-// What call 1 answers. `room` is the length of the port tables.
+// What call 1 answers. `room` is the length of the port tables, and any number here, so it takes no `View`.
 #[tactic(auto, unfolding(crate::specs::Steps::add_answer))]
 pub fn add_answer(
     slots: &[u32],
@@ -52,7 +52,7 @@ pub fn add_answer(
     Ok((free_slots::next_slot(counters), 0, 0))
 }
 
-// The slab of a new step, with its owner words: none where it has no ports.
+// The slab of a new step, with its owner words: none where it has no ports. It has the tables that it changes and not the slots.
 #[tactic(auto, unfolding(crate::specs::Steps::new_slab_at_hand, crate::specs::Steps::new_first, crate::specs::Steps::new_links, crate::specs::Steps::new_heads, crate::specs::Steps::new_mark, slabs::specs::Slab::owners_written, slabs::specs::Slab::filled))]
 fn take_ports(
     links: &mut [u32],

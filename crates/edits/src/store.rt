@@ -2,7 +2,9 @@
 ghost use Rattle.std.specs.Prelude.{◌≡◌};
 ghost use Rattle.edits.specs.Store.{SameWords};
 
-// The tables, to change. A function that takes them leaves the same slices in them (`SameMemory`).
+// The tables, to change. A function that takes them leaves the same slices in them (`SameMemory`). One that changes a part of them takes
+// those slices alone: that the others stay is then in its type. The counters stand beside them, a value in and a value out, and `Fit`
+// of both is a clause and no field: an edit that is half done breaks it.
 #[derive(Drop)]
 pub struct Tables<'a> {
     pub slots: &'a mut [u32],
@@ -11,7 +13,7 @@ pub struct Tables<'a> {
     pub heads: &'a mut [u32],
 }
 
-// The tables, to look at.
+// The tables, to look at. A type of its own, since whoever may only look could not lend `Tables`.
 #[derive(Clone, Copy)]
 pub struct View<'a> {
     pub slots: &'a [u32],

@@ -56,6 +56,7 @@ fn arrive(
     }
 }
 
+// `matches!`, under the name that the definition of swap has.
 fn is_free(entry: NodeEntry) -> bool
     ensures { result ≡ is_free entry }
 {
@@ -69,7 +70,7 @@ fn stays_put(a: u32, b: u32, here: NodeEntry, there: NodeEntry) -> bool
     a == b || is_free(here) && is_free(there)
 }
 
-// Exchanges two slots below the mark.
+// Exchanges two slots below the mark. It has the tables that it changes, so that the others stay is in its type.
 #[tactic(auto, unfolding(crate::specs::Swap::swapped_slots, crate::specs::Swap::swapped_owners, crate::specs::Swap::swapped_counters))]
 pub fn swap(slots: &mut [u32], owners: &mut [u32], counters: Counters, a: u32, b: u32) -> Counters
     requires { CanSwap slots.old owners.old a b }

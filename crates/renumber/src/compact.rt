@@ -29,7 +29,9 @@ pub fn compact_answer(count: u32, left: usize) -> Answer
     Ok((count, 0, 0))
 }
 
-// Carries one live slot down to the slot `new`, its owner words with it.
+// Carries one live slot down to the slot `new`, its owner words with it. A swap does the same, but
+// writes the slot before its cases part: one function for both would take the write into each case. Here and below, a function has the
+// tables that it changes and no other, so that the others stay is in its type.
 fn move_node(slots: &mut [u32], owners: &mut [u32], new: u32, meta: NodeMeta)
     requires { (width * new + width ≤ length slots.old) × (new < 65536) × (meta.inlets ≤ 16384) × (meta.first + meta.inlets + meta.outlets ≤ length owners.old) }
     ensures { (slots.new ≡ set_entry slots.old new (Node meta)) × (owners.new ≡ owners_written owners.old new meta.first meta.inlets meta.outlets) }
@@ -133,7 +135,8 @@ fn pack_ports(
     new
 }
 
-// A live step without ports has no slab any more.
+// A live step without ports has no slab any more. Written apart from `follow_first`, for a closure over the entry would have to say in
+// each contract what it does to which.
 #[tactic(auto, unfolding(crate::specs::Compact::slab_dropped))]
 fn drop_slab(slots: &mut [u32], slot: u32)
     requires { (width * slot + width ≤ length slots.old) × SlotsFit slots.old (slot + 1) 32768 1048576 }
@@ -151,7 +154,7 @@ fn drop_slab(slots: &mut [u32], slot: u32)
     }
 }
 
-// So for every slot below the mark.
+// So for every slot below the mark. A clause says that they lie in the table, for `Slots` is of a table that nobody changes.
 #[tactic(auto, unfolding(crate::specs::Compact::slabs_dropped))]
 fn drop_slabs(slots: &mut [u32], mark: u32)
     requires { (width * mark ≤ length slots.old) × SlotsFit slots.old mark 32768 1048576 }
@@ -163,7 +166,7 @@ fn drop_slabs(slots: &mut [u32], mark: u32)
 }
 
 // Call 8: live ports move down in order, spare capacity goes, and all chains of slabs are emptied.
-#[tactic(auto, using(crate::proofs::PackLaws::port_laws))]
+#[tactic(auto, using(crate::proofs::PackLaws::port_laws, slabs::proofs::FillLaws::fill_whole), unfolding(crate::specs::Compact::ports_compacted, crate::specs::Compact::emptied_above))]
 pub fn compact_ports(tables: &mut Tables<'_>, log: &mut Log<'_>, counters: Counters) -> Counters
     requires { Fit (store_in tables.old counters) × RecordRoom log.old.words.now log.old.to counters.ports }
     ensures memory { SameMemory tables.old tables.new × SameLog log.old log.new }

@@ -37,7 +37,8 @@ pub struct LogPlace {
     pub place: u32,
 }
 
-// Writes one record. The kind is a word here, any word, as it always was.
+// Writes one record. The kind is a word here, for the promise is of any word
+// (`set_record`), and a `Kind` would take that away; it has no `Log`, whose place would move.
 #[tactic(auto, using(slabs::proofs::RowLaws::set_row_of_four))]
 pub fn write_record(log: &mut [u32], to: LogPlace, kind: u32, old: u32, new: u32)
     requires { record_width * to.at + record_width ≤ length log.old }
@@ -46,7 +47,8 @@ pub fn write_record(log: &mut [u32], to: LogPlace, kind: u32, old: u32, new: u32
     write_row::<RECORD>(log, to.at, [to.place, kind, old, new]);
 }
 
-// A log that is written to, and where its next record goes.
+// A log that is written to, and where its next record goes. How much room is left is a clause of those who write more than one: a
+// single record asks for its own place alone.
 #[derive(Drop)]
 pub struct Log<'a> {
     pub words: &'a mut [u32],

@@ -50,8 +50,8 @@ pub fn move_port(links: &mut [u32], old: u32, new: u32)
     let word = links[old as usize];
     links[old as usize] = 0;
     links[new as usize] = word;
-    if word != 0 {
-        links[(word - 1) as usize] = new + 1;
+    if let Some(partner) = word.checked_sub(1) {
+        links[partner as usize] = new + 1;
     }
 }
 
@@ -76,7 +76,7 @@ impl Run {
     }
 }
 
-// Carries a run of ports.
+// Carries a run of ports. Its records are a loop of their own, for what is promised here is of the links alone, and there of the log.
 #[tactic(auto, using(crate::proofs::MoveLaws::run_laws), unfolding(crate::specs::Moves::moved_run))]
 pub fn move_ports(links: &mut [u32], run: Run)
     requires { CanMove links.old run }

@@ -17,7 +17,7 @@ use edits::store::Tables;
 use slabs::counters::Counters;
 use slabs::node_entry::{NodeEntry, NodeMeta};
 
-// A live step and the counts that it is to have.
+// A live step and the counts that it is to have. `is_idle` is promised of any counts, so that they are few (`SmallChange`) is a clause.
 #[derive(Clone, Copy)]
 pub struct Change {
     pub node: u32,
@@ -128,7 +128,7 @@ fn change_answer(room: usize, heads: &[u32], mark: u32, left: usize, change: Cha
     log_answer(left, change)
 }
 
-// What call 3 answers.
+// What call 3 answers. It takes the counters, which have the mark: in a `Slots` beside them it would stand twice.
 #[tactic(auto, using(crate::proofs::AnswerLaws::node_at_live), unfolding(crate::specs::Resize::resize_answer))]
 pub fn resize_answer(
     slots: &[u32],
@@ -161,7 +161,7 @@ pub fn resize_answer(
 }
 
 // Cuts the removed inlets, then the removed outlets, with their records. Says how many wires went.
-#[tactic(auto, using(crate::proofs::MoveLaws::cut_laws, crate::proofs::RecordLaws::log_laws))]
+#[tactic(auto, using(crate::proofs::MoveLaws::cut_laws, crate::proofs::RecordLaws::log_laws, crate::proofs::RecordLaws::later_again))]
 fn cut_removed(links: &mut [u32], log: &mut Log<'_>, change: Change) -> u32
     requires { CanCutRemoved links.old log.old.words.now log.old.to change }
     ensures memory { SameLog log.old log.new }
@@ -174,7 +174,8 @@ fn cut_removed(links: &mut [u32], log: &mut Log<'_>, change: Change) -> u32
     wires + moves::remove_ports(links, log, start, change.outlets_removed())
 }
 
-// Writes the owner words of the changed step from `first` on.
+// Writes the owner words of the changed step from `first` on. Here and below, a function has the tables that it changes and no other, so
+// that the others stay is in its type.
 fn own_ports(owners: &mut [u32], change: Change, first: u32)
     requires { (change.node < 65536) × (first + change.inlets + change.outlets ≤ length owners.old) }
     ensures { owners.new ≡ changed_owners owners.old change first }
@@ -228,7 +229,7 @@ fn shift(links: &mut [u32], owners: &mut [u32], log: &mut Log<'_>, change: Chang
 }
 
 // Carries the kept inlets, then the kept outlets, to a new slab that starts at `first`, with their records.
-#[tactic(auto, using(crate::proofs::MoveLaws::run_laws, crate::proofs::RecordLaws::log_laws))]
+#[tactic(auto, using(crate::proofs::MoveLaws::run_laws, crate::proofs::RecordLaws::log_laws, crate::proofs::RecordLaws::later_again))]
 fn move_kept(links: &mut [u32], log: &mut Log<'_>, change: Change, first: u32)
     requires { CanMoveKept links.old log.old.words.now log.old.to change first }
     ensures memory { SameLog log.old log.new }
@@ -286,6 +287,7 @@ fn reallocate(
 }
 
 // Resizes a live step whose counts change. What it needs is known to be there.
+#[tactic(auto, using(crate::proofs::ResizeParts::can_cut, crate::proofs::RecordLaws::later_again, crate::proofs::ResizeLaws::records_in_place, crate::proofs::ResizeLaws::records_into))]
 pub fn resize(
     tables: &mut Tables<'_>,
     log: &mut Log<'_>,

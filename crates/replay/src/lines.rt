@@ -1,12 +1,11 @@
 // Lines of a session: a letter and so many numbers, each after a tab.
-ghost use Rattle.std.specs.Prelude.{◌≤◌, ◌<◌, length};
+ghost use Rattle.std.specs.Prelude.{◌<◌, length, IfSome};
 
-// A line that was read. One that has not just the numbers of its letter, or a letter that means nothing, is skipped.
+// What a line says, if it says something.
 #[derive(Clone, Copy)]
 pub enum Line {
     Call([u32; 4]),
     Change(Change),
-    Skipped,
 }
 
 // What changes the session, and so ends the run before it. The table of a word is the number that was read, since the
@@ -28,7 +27,7 @@ pub enum Change {
 }
 
 // The number that some digits say, which is 0 where there are none. None where a byte is no digit, or the number is
-// past every word.
+// past every word. The digits are read by hand, for std's `parse` takes a sign and refuses the empty text.
 fn number(digits: &[u8]) -> Option<u32> {
     let mut n: u32 = 0;
     for byte in digits {
@@ -54,7 +53,7 @@ fn numbers<const N: usize>(text: &[u8]) -> Option<[u32; N]> {
     Some(words)
 }
 
-// What a line says: None where it is to be skipped.
+// What a line says: None where it has not just the numbers of its letter, or a letter that means nothing.
 fn parse(line: &[u8]) -> Option<Line> {
     let (letter, rest) = line.split_first()?;
     match *letter {
@@ -80,16 +79,18 @@ fn parse(line: &[u8]) -> Option<Line> {
     }
 }
 
-// The line that starts at `at`, and the place after it. It ends with a newline, or with the text.
-pub fn read_line(text: &[u8], at: usize) -> (Line, usize)
-    requires { at < length text.now }
-    ensures { (at < result.1) × (result.1 ≤ length text.now) }
+// The first line of a text, which ends with a newline or with the text, or none where it is to be skipped; and what
+// follows it. None where there is no text left.
+pub fn read_line(text: &[u8]) -> Option<(Option<Line>, &[u8])>
+    ensures { IfSome result (λ parts. length parts.1.now < length text.now) }
 {
-    let rest = &text[at..];
-    let end = rest
+    if text.is_empty() {
+        return None;
+    }
+    let end = text
         .iter()
         .position(|byte| *byte == b'\n')
-        .unwrap_or(rest.len());
-    let line = parse(&rest[..end]).unwrap_or(Line::Skipped);
-    (line, text.len().min(at + end + 1))
+        .unwrap_or(text.len());
+    let after = text.len().min(end + 1);
+    Some((parse(&text[..end]), &text[after..]))
 }

@@ -10,12 +10,13 @@ use edits::store::Tables;
 use input::read_full;
 use std::io::{self, Read, Write};
 
-// Reads the input, as far as there is room for it, and replays it in these tables.
+// Reads the input, as far as there is room for it, and replays it in these tables. The text stands in an array with the
+// number of its bytes beside it, for nothing here is on the heap.
 fn replay_input<R: Read, W: Write>(
     input: &mut R,
     output: &mut W,
     text: &mut [u8],
-    tables: &mut Tables,
+    tables: &mut Tables<'_>,
     scratch: &mut [u32],
     log: &mut [u32],
 ) -> io::Result<()> {

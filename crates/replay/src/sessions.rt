@@ -1,17 +1,20 @@
 // Sessions: an empty store of some room, and runs of calls over it.
-ghost use Rattle.std.specs.Prelude.{◌≡◌, ◌≢◌, ◌*◌, ◌/◌, ◌≤◌, length, take, min, OnOk};
+ghost use Rattle.std.specs.Prelude.{◌≡◌, ◌≢◌, ◌*◌, ◌/◌, ◌≤◌, length, take, OnOk};
 ghost use Rattle.std.specs.Io.KnownBytes.{Appends};
 ghost use Rattle.edits.specs.Store.{SameMemory};
 ghost use Rattle.run.specs.Run.{code_of, records_of};
 ghost use Rattle.replay.specs.Transcript.{transcript, refusal_line};
 
-use crate::lines::Change;
-use crate::runs::Step;
+use crate::lines::{self, Change, Line};
 use crate::{printing, runs};
+use arrayvec::ArrayVec;
 use edits::store::Tables;
 use run::RunAnswer;
 use slabs::counters::Counters;
 use std::io::{self, Write};
+
+// The words of the calls of a run, of which it has 256 at the most.
+type Calls = ArrayVec<u32, 1024>;
 
 // The room that a session asks for, its next run's log included, and the counters of its store. Slots and records are
 // counted in words. There may be less room than that: a table is lent as far as it goes.
@@ -32,30 +35,27 @@ fn words_of(items: u32) -> usize
     4 * items as usize
 }
 
-// How many words of a table are lent where n are asked for: all of them where it has fewer.
-fn room(n: usize, table: &[u32]) -> usize
-    ensures in_bounds { result ≤ length table.now }
-    ensures prefix { result ≡ length (take result table.now) }
-    ensures value { result ≡ min n (length table.now) }
+// The first n words of a table, or all where it has fewer.
+fn lent(table: &mut [u32], n: usize) -> &mut [u32]
+    ensures { result.now ≡ take n table.old }
 {
-    n.min(table.len())
+    let end = n.min(table.len());
+    &mut table[..end]
 }
 
 // The first n words of a table become 0, or all where it has fewer.
 fn zero(table: &mut [u32], n: usize) {
-    let end = room(n, table);
-    table[..end].fill(0);
+    lent(table, n).fill(0);
 }
 
 // A word among the first n of a table is overwritten.
 fn set_word(table: &mut [u32], n: usize, at: u32, word: u32) {
-    let end = room(n, table);
-    if let Some(old) = table[..end].get_mut(at as usize) {
+    if let Some(old) = lent(table, n).get_mut(at as usize) {
         *old = word;
     }
 }
 
-// A counter is overwritten.
+// A counter is overwritten. Which one is the number of the line, and a number that no counter has is no mistake.
 fn set_counter(mut counters: Counters, which: u32, word: u32) -> Counters {
     match which {
         0 => counters.nodemark = word,
@@ -165,14 +165,15 @@ fn print_answer<W: Write>(
 {
     match done.records {
         Ok(records) => {
-            let written = room(words_of(records), log);
+            let written = words_of(records).min(log.len());
             runs::print_run(output, calls, answers, &log[..written])
         }
         Err(refusal) => printing::print_line(output, b'Q', &[u32::from(refusal)]),
     }
 }
 
-// A run over parts of the tables.
+// A run over parts of the tables. They come one by one: a struct made of parts of another's slices is past the borrow checker, which
+// says that a call keeps the loan of a slice in a field while another field is used.
 fn run_over(
     slots: &mut [u32],
     links: &mut [u32],
@@ -204,30 +205,44 @@ fn make_run<W: Write>(
 ) -> io::Result<Session>
     ensures memory { SameMemory tables.old tables.new }
 {
-    let slot_end = room(session.slot_words, tables.slots);
-    let link_end = room(session.ports, tables.links);
-    let owner_end = room(session.ports, tables.owners);
-    let head_end = room(session.heads, tables.heads);
-    let scratch_end = room(session.scratch_words, scratch);
-    let log_end = room(session.log_words, log);
     let mut answers = [0u32; 1024];
     let done = run_over(
-        &mut tables.slots[..slot_end],
-        &mut tables.links[..link_end],
-        &mut tables.owners[..owner_end],
-        &mut tables.heads[..head_end],
-        &mut scratch[..scratch_end],
+        lent(tables.slots, session.slot_words),
+        lent(tables.links, session.ports),
+        lent(tables.owners, session.ports),
+        lent(tables.heads, session.heads),
+        lent(scratch, session.scratch_words),
         calls,
         &mut answers,
-        &mut log[..log_end],
+        lent(log, session.log_words),
         session.counters,
     );
     print_answer(output, done, calls, &answers, log)?;
     Ok(session.with_counters(done.counters))
 }
 
+// Makes the run of the calls that wait, if there are any, so that none waits, and gives the session after it.
+fn end_run<W: Write>(
+    output: &mut W,
+    session: Session,
+    calls: &mut Calls,
+    tables: &mut Tables<'_>,
+    scratch: &mut [u32],
+    log: &mut [u32],
+) -> io::Result<Session>
+    ensures memory { SameMemory tables.old tables.new }
+{
+    if calls.is_empty() {
+        return Ok(session);
+    }
+    let after = make_run(output, session, calls.as_slice(), tables, scratch, log)?;
+    calls.clear();
+    Ok(after)
+}
+
 // Replays the sessions of a text in these tables, whose lengths are the largest room. Calls before the first S line
-// are a session in the room of the desk program.
+// are a session in the room of the desk program. A run ends before a change, before a call that has no room in it, and
+// with the text.
 pub fn replay<W: Write>(
     output: &mut W,
     text: &[u8],
@@ -238,17 +253,27 @@ pub fn replay<W: Write>(
     ensures memory { SameMemory tables.old tables.new }
 {
     let mut session = Session::empty(64, 512, 128, 512);
-    let mut at: usize = 0;
-    while at < text.len() {
-        let (step, next) = runs::read_step(text, at);
-        session = match step {
-            Step::Run(calls) => {
-                make_run(output, session, calls.as_slice(), tables, scratch, log)?
+    let mut calls = Calls::new();
+    let mut rest = text;
+    // A `for` over `split` was tried, and its proof did not close: this function takes any writer.
+    while let Some((line, after)) = lines::read_line(rest) {
+        rest = after;
+        match line {
+            Some(Line::Call(call)) => {
+                if calls.try_extend_from_slice(&call).is_err() {
+                    session = end_run(output, session, &mut calls, tables, scratch, log)?;
+                    // It has room in a run of its own.
+                    let _ = calls.try_extend_from_slice(&call);
+                }
             }
-            Step::Change(line) => change(output, session, line, tables)?,
-            Step::Skip => session,
-        };
-        at = next;
+            Some(Line::Change(line)) => {
+                session = end_run(output, session, &mut calls, tables, scratch, log)?;
+                session = change(output, session, line, tables)?;
+            }
+            // A line that says nothing ends no run.
+            None => {}
+        }
     }
+    end_run(output, session, &mut calls, tables, scratch, log)?;
     Ok(())
 }

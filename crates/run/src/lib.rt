@@ -43,7 +43,7 @@ pub struct RunAnswer {
 // The words of a call, and of an answer.
 const CALL: usize = 4;
 
-// Reads call number i.
+// Reads call number i. No `From` here and below: the row is taken apart in the line that reads it, which is plainer.
 #[tactic(auto, using(slabs::proofs::RowLaws::row_of_four))]
 fn read_call(calls: &[u32], i: usize) -> Call
     requires { call_width * i + call_width ≤ length calls.now }
@@ -69,6 +69,7 @@ fn write_answer(answers: &mut [u32], i: usize, words: AnswerWords)
 }
 
 // The calls of a run over a sound store, each with what remains of the log.
+#[tactic(auto, using(crate::proofs::Steps::stands_first, crate::proofs::Steps::stands_answers, crate::proofs::Steps::stands_last))]
 fn answer_calls(
     tables: &mut Tables<'_>,
     calls: &[u32],

@@ -3,12 +3,14 @@ ghost use Rattle.audit.specs.Decides.{Decides};
 ghost use Rattle.run.specs.Run.{LengthsOf, WholeUpTo};
 
 // Whether a length is a whole number of fours, at most so many.
+#[tactic(auto, using(audit::proofs::DecideLaws::decided_not))]
 fn whole(n: usize, most: usize) -> bool
     ensures { Decides result (WholeUpTo n most) }
 {
     n % 4 == 0 && n / 4 <= most
 }
 
+// The lengths one by one: a struct of eight would be made to be taken apart.
 pub fn well_shaped(
     slots: usize,
     links: usize,

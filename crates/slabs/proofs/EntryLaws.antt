@@ -1,16 +1,15 @@
 -- What owner words and slot words say once they are written: an entry that is stored is read back, and no other slot changes.
-use Prim.Native.Nat.{ℕ, suc, zero, ◌+◌, ◌*◌, ◌≤◌, ◌<◌}
+use Prim.Native.Nat.{ℕ, ◌+◌, ◌*◌, ◌≤◌, ◌<◌}
 use mathlib.Core.List.{List}
 use mathlib.Core.Path.{◌≡◌, refl, ◌∙◌}
 use native.Mathlib.Omega.{arith}
+use Rattle.std.proofs.lemmas.Grind.{common_steps}
 use native.Mathlib.Nat.{add-sub_cancel}
 use lib.ListN.{length, get_or, set, length-set}
 use lib.Seq.{get_or-set_same, get_or-set_other}
 use lib.Dec.{leb}
 use borrow.Author.Tests.{ne_eqb, le-leb, lt-leb}
-use mathlib.Core.Bool.{Bool, true, false}
 use Rattle.std.specs.Prelude.{Some, eqb}
-use Rattle.slabs.specs.Choice.{pick}
 use Rattle.slabs.specs.PortEntry.{outlet_bit, direction_word, owner_word, direction_of, facing, node_of, port_entry}
 use denote.Enum.Bare.{sameb}
 use Rattle.slabs.specs.contracts.port_entry.Direction.{the_type}
@@ -29,16 +28,12 @@ owner_live node d e = omega arith
 -- An owner word gives back its direction,
 pub owner_direction : (node d : ℕ) → node < 65536 → d ≤ 1 → direction_of (owner_word node d) ≡ d
 unfolding direction_of
-owner_direction node zero h k = simp (le-leb (owner_word node 0) outlet_bit (omega arith))
-owner_direction node (suc zero) h k = simp (lt-leb (owner_word node 1) outlet_bit (omega arith))
-owner_direction node (suc (suc d)) h k = absurd (omega arith)
+owner_direction node d h k = grind (arith, common_steps)
 
 -- its node,
 pub owner_node : (node d : ℕ) → node < 65536 → d ≤ 1 → node_of (owner_word node d) ≡ node
 unfolding node_of
-owner_node node zero h k = simp (le-leb (owner_word node 0) outlet_bit (omega arith)) (omega arith)
-owner_node node (suc zero) h k = simp (lt-leb (owner_word node 1) outlet_bit (omega arith)) (omega arith)
-owner_node node (suc (suc d)) h k = absurd (omega arith)
+owner_node node d h k = grind (arith, common_steps)
 
 -- its direction by name,
 pub owner_facing : (node : ℕ) (d : Direction) → node < 65536 → facing (owner_word node (direction_word d)) ≡ d
@@ -61,11 +56,7 @@ owner_entry node d h =
 -- The direction by name and by its word is the same.
 pub facing_word : (w : ℕ) → direction_word (facing w) ≡ direction_of w
 unfolding facing direction_of
-facing_word w = go (leb w outlet_bit)
-  where
-    go : (b : Bool) → direction_word (pick b Incoming Outgoing) ≡ pick b 0 1
-    go true = refl
-    go false = refl
+facing_word w = grind (arith, common_steps)
 
 -- A direction is 0 or 1.
 pub direction_le : (w : ℕ) → direction_of w ≤ 1

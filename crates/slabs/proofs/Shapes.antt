@@ -1,12 +1,11 @@
 -- What cutting and filling leave of a table's shape: its length, and that its link words stay inside. With bounds on what is counted.
-use Prim.Native.Nat.{ℕ, suc, zero, ◌+◌, ◌-◌, ◌≤◌, ◌<◌}
+use Prim.Native.Nat.{ℕ, suc, zero, ◌+◌, ◌-◌, ◌≤◌}
 use mathlib.Core.List.{List}
 use mathlib.Core.Path.{◌≡◌, refl, ◌∙◌}
 use mathlib.Core.Bool.{Bool, true, false}
 use native.Mathlib.Omega.{arith}
-use native.Mathlib.Decide.{ℕ_discrete, dec_lt}
+use Rattle.std.proofs.lemmas.Grind.{common_steps}
 use lib.ListN.{length, get_or, set, length-set}
-use lib.Seq.{get_or-set_same, get_or-set_other, set_out}
 use lib.Dec.{eqb}
 use Rattle.slabs.specs.Choice.{pick}
 use Rattle.slabs.specs.Links.{Inside, cut_at, wired_at, cut_run, wires_in}
@@ -15,15 +14,7 @@ use Rattle.slabs.proofs.ChoiceLaws.{pick_bit}
 
 -- After a store each word is the one that was stored or the one before, so a bound of both is one of it.
 pub read_set : (ls : List ℕ) (i w p b : ℕ) → w ≤ b → get_or ls p 0 ≤ b → get_or (set ls i w) p 0 ≤ b
-read_set ls i w p b hw hp = other (ℕ_discrete p i)
-  where
-    at : Dec (i < length ls) → p ≡ i → get_or (set ls i w) p 0 ≤ b
-    at (yes k) e = rw e (rw (get_or-set_same ls i w 0) hw)
-    at (no k) e = let o : length ls ≤ i = omega arith in rw (set_out ls i w) hp
-
-    other : Dec (p ≡ i) → get_or (set ls i w) p 0 ≤ b
-    other (yes e) = at (dec_lt i (length ls)) e
-    other (no n) = rw (get_or-set_other ls i p w 0 n) hp
+read_set ls i w p b hw hp = grind (arith, common_steps)
 
 -- A store of a word that is inside keeps the table inside.
 pub set_inside : (ls : List ℕ) (i w : ℕ) → w ≤ length ls → Inside ls → Inside (set ls i w)
@@ -32,11 +23,7 @@ set_inside ls i w hw h p = rw length-set (read_set ls i w p (length ls) hw (h p)
 -- Cutting at a port leaves the length,
 pub cut_at_length : (ls : List ℕ) (p : ℕ) → length (cut_at ls p) ≡ length ls
 unfolding cut_at
-cut_at_length ls p = go (eqb (get_or ls p 0) 0)
-  where
-    go : (t : Bool) → length (pick t ls (set (set ls p 0) (get_or ls p 0 - 1) 0)) ≡ length ls
-    go true = refl
-    go false = simp length-set
+cut_at_length ls p = grind (arith, common_steps)
 
 -- and keeps the link words inside.
 pub cut_at_inside : (ls : List ℕ) (p : ℕ) → Inside ls → Inside (cut_at ls p)

@@ -3,12 +3,13 @@
 use Prim.Native.Nat.{ℕ, suc, zero, ◌+◌, ◌-◌, ◌≤◌, ◌<◌}
 use mathlib.Core.Path.{◌≡◌, refl, ap, sym, ◌∙◌}
 use mathlib.Core.List.{List, [], ◌∷◌}
-use mathlib.Core.Bool.{Bool, true, false}
+use mathlib.Core.Bool.{true}
 use native.Mathlib.Omega.{arith}
+use Rattle.std.proofs.lemmas.Grind.{common_steps}
 use native.Mathlib.Decide.{ℕ_discrete, dec_lt, dec_le}
 use lib.ListN.{length, get_or, set, length-set, get_or-eq_default}
 use lib.Seq.{get_or-set_same, get_or-set_other}
-use lib.Dec.{eqb, leb, ltb}
+use lib.Dec.{eqb, leb}
 use borrow.Author.Tests.{eq-eqb, ne_eqb, lt-ltb, le-ltb, le-leb, lt-leb, leb-true}
 use Rattle.slabs.specs.Choice.{pick}
 use Rattle.slabs.specs.Sums.{sum, sum_of}
@@ -39,21 +40,11 @@ in_slab_above first size p u = simp (le-ltb p (first + size) u) (pick_same (leb 
 -- A port lies in a slab once at most.
 pub in_slab_le : (first size p : ℕ) → in_slab first size p ≤ 1
 unfolding in_slab
-in_slab_le first size p = go (leb first p) (ltb p (first + size))
-  where
-    go : (s t : Bool) → pick s (pick t 1 0) 0 ≤ 1
-    go true true = omega arith
-    go true false = omega arith
-    go false t = omega arith
+in_slab_le first size p = grind (arith, common_steps)
 
 -- A port that lies in a slab is from first on and before the end.
 pub in_slab_lies : (first size p : ℕ) → 1 ≤ in_slab first size p → (first ≤ p) × (p < first + size)
-in_slab_lies first size p h = go (dec_lt p first) (dec_le (first + size) p)
-  where
-    go : Dec (p < first) → Dec (first + size ≤ p) → (first ≤ p) × (p < first + size)
-    go (yes l) d = absurd (omega (arith, in_slab_below first size p l))
-    go (no l) (yes u) = absurd (omega (arith, in_slab_above first size p u))
-    go (no l) (no u) = (omega arith, omega arith)
+in_slab_lies first size p h = grind (arith, common_steps, in_slab_below, in_slab_above)
 
 -- What holds at each port of a slab, counted from first, holds at each port that lies in it.
 pub in_slab_each : (P : ℕ → Type 0) (first size : ℕ) → ((i : ℕ) → i < size → P (first + i)) → (p : ℕ) → 1 ≤ in_slab first size p → P p
@@ -82,19 +73,11 @@ is_port_no first p d = simp (ne_eqb first p d)
 
 -- What is counted as this port is this port.
 pub is_port_is : (first p : ℕ) → 1 ≤ is_port first p → first ≡ p
-is_port_is first p h = go (ℕ_discrete first p)
-  where
-    go : Dec (first ≡ p) → first ≡ p
-    go (yes e) = e
-    go (no d) = absurd (omega (arith, is_port_no first p d))
+is_port_is first p h = grind (arith, common_steps, is_port_no)
 
 -- A slab's first port lies in it.
 pub is_port_in : (first i p : ℕ) → is_port first p ≤ in_slab first (suc i) p
-is_port_in first i p = go (ℕ_discrete first p)
-  where
-    go : Dec (first ≡ p) → is_port first p ≤ in_slab first (suc i) p
-    go (yes e) = omega (arith, is_port_yes first p e, in_slab_yes first (suc i) p (omega arith) (omega arith))
-    go (no d) = omega (arith, is_port_no first p d)
+is_port_in first i p = grind (arith, common_steps, is_port_yes, in_slab_yes, is_port_no)
 
 -- A port where a free slab starts lies in a free slab.
 pub starts_free : (chains : ℕ → List ℕ) (sizes p : ℕ) → starts_at chains sizes p ≤ free_at chains sizes p

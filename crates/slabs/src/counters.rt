@@ -1,4 +1,5 @@
-// The six counters. A method takes them as a value, and hands the changed ones back.
+// The six counters. A method takes them as a value, and hands the changed ones back. The free slot head is a chain word (a slot plus 1,
+// and 0 for none) as it comes from the caller, who may lend any (`Ran`).
 ghost use Rattle.std.specs.Prelude.{◌≡◌, ◌+◌, ◌-◌, ◌<◌};
 ghost use Rattle.slabs.specs.Counters.{none_counted, link_counted, links_uncounted, slab_freed, mark_raised, node_mark_raised, free_slot_moved, node_counted, node_uncounted, ports_recounted, nodes_packed, ports_packed};
 
@@ -13,6 +14,7 @@ pub struct Counters {
 }
 
 impl Counters {
+    // `default`, under the name that the definitions have for it.
     pub fn none_counted() -> Self
         ensures { result ≡ none_counted }
     {

@@ -11,7 +11,8 @@ pub fn link_at(links: &[u32], port: usize) -> Option<u32>
     links[port].checked_sub(1)
 }
 
-// Cuts the wire at a port, at both its ends, and says how many wires that were: 1 or 0.
+// Cuts the wire at a port, at both its ends, and says how many wires that were: 1 or 0, for `cut_run` adds them up. That no word leads outside (`Inside`) is a
+// clause, for the links are lent as one of the tables, and a type of such tables would be made anew for each cut.
 #[tactic(auto, unfolding(crate::specs::Links::link_at, crate::specs::Links::cut_at, crate::specs::Links::wired_at))]
 pub fn cut(links: &mut [u32], port: usize) -> u32
     requires { (port < length links.old) × Inside links.old }

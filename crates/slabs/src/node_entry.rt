@@ -17,7 +17,8 @@ pub struct NodeMeta {
     pub capacity: u32,
 }
 
-// What a slot says. The neighbours of a free slot are kept plus 1, and 0 is none.
+// What a slot says. The neighbours of a free slot are chain words, a slot plus 1 and 0 for none, as they stand in the table (`set_entry`). An enum
+// of its own, since both sides carry words.
 #[derive(Clone, Copy, PartialEq, Eq)]
 pub enum NodeEntry {
     Free { previous: u32, next: u32 },
@@ -56,18 +57,18 @@ pub fn read_slot(slots: &[u32], slot: usize) -> NodeEntry
     ensures { result ≡ node_entry slots.now slot }
 {
     let [first, second, third, fourth] = read_row::<WIDTH>(slots, slot);
-    if second == 0 {
-        return NodeEntry::Free {
+    match second.checked_sub(1) {
+        Some(inlets) => NodeEntry::Node(NodeMeta {
+            first,
+            inlets,
+            outlets: third,
+            capacity: fourth,
+        }),
+        None => NodeEntry::Free {
             previous: first,
             next: third,
-        };
+        },
     }
-    NodeEntry::Node(NodeMeta {
-        first,
-        inlets: second - 1,
-        outlets: third,
-        capacity: fourth,
-    })
 }
 
 // Writes an entry to slot `slot`.

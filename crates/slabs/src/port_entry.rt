@@ -69,7 +69,8 @@ pub fn port_entry(word: u32) -> Option<PortMeta>
     })
 }
 
-// The owner word of a port of this node in this direction.
+// The owner word of a port of this node in this direction. A node's number comes as a word of a call or of a table, here and above; that
+// it is below 65,536 is a clause, for a type of such numbers would be made and taken apart at each.
 pub fn owner_word(node: u32, direction: Direction) -> u32
     requires { node < 65536 }
     ensures { result ≡ owner_word node (direction_word direction) }

@@ -28,17 +28,15 @@ pub fn take_slab(
     ensures { TookSlab links.old heads.old counters size links.new heads.new result.0 result.1 }
 {
     let chain = (size - 1) as usize;
-    let head = heads[chain];
-    if head == 0 {
+    let Some(first) = heads[chain].checked_sub(1) else {
         return (counters.portmark, counters.mark_raised(size));
-    }
-    let first = head - 1;
+    };
     heads[chain] = links[first as usize];
     links[first as usize] = 0;
     (first, counters)
 }
 
-// Writes one word to n places of a table from `first` on.
+// Writes one word to n places of a table from `first` on. It has the whole table, for it promises that the others stay.
 #[tactic(auto, using(crate::proofs::FillLaws::fill_mid))]
 pub fn fill(table: &mut [u32], first: usize, n: usize, word: u32)
     requires { first + n ≤ length table.old }
@@ -47,7 +45,7 @@ pub fn fill(table: &mut [u32], first: usize, n: usize, word: u32)
     table[first..first + n].fill(word);
 }
 
-// Writes the owner words of a node's inlets and outlets, from `first` on.
+// Writes the owner words of a node's inlets and outlets, from `first` on. The three are any numbers; a `NodeMeta` would ask more.
 #[tactic(auto, unfolding(crate::specs::Slab::owners_written))]
 pub fn write_owners(owners: &mut [u32], node: u32, first: usize, inlets: usize, outlets: usize)
     requires { (node < 65536) × (first + inlets + outlets ≤ length owners.old) }

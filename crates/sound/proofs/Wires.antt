@@ -85,7 +85,7 @@ unfolding link_answer
 link_done owners links mark a b e = go (port_at owners mark a) refl (port_at owners mark b) refl e
   where
     pair : (d f : Direction) (same : Bool) → eqb (direction_word d) (direction_word f) ≡ same → (la : Bool) → eqb (get_or links a 0) 0 ≡ la → (lb : Bool) → eqb (get_or links b 0) 0 ≡ lb
-        → is_done (pick same (Err (SameDirection a b d)) (pick la (pick lb (done a b 0) (Err (AlreadyLinked b))) (Err (AlreadyLinked a)))) ≡ true
+        → is_done (pick same (Err (SameDirection a b (direction_word d))) (pick la (pick lb (done a b 0) (Err (AlreadyLinked b))) (Err (AlreadyLinked a)))) ≡ true
         → (direction_word d ≡ direction_word f → ⊥) × (get_or links a 0 ≡ 0) × (get_or links b 0 ≡ 0)
     pair d f false n true la true lb e = (eqb-false (direction_word d) (direction_word f) n, eqb-true (get_or links a 0) 0 la, eqb-true (get_or links b 0) 0 lb)
     pair d f false n true la false lb e = absurd (false_true e)

@@ -107,6 +107,11 @@ pub records_fit : (answers log : List ℕ) (records n place : ℕ) → place < n
 records_fit answers log records n place h few k =
     omega (arith, run_more_length answers log records place, run_fits answers log records (place + 1) (omega arith) k)
 
+-- A field has eleven bytes at most: a tab and ten digits.
+pub fields_within : (xs : List ℕ) → length (fields xs) ≤ 11 * length xs
+fields_within [] = omega (arith, fields_none)
+fields_within (x ∷ xs) = omega (arith, fields-length x xs, digits-length 10 x, fields_within xs)
+
 -- And so does the line of an error.
 pub error_fits : (line : ℕ) → length (error_line line) ≤ 32768
 error_fits line = simp (line_length, fields-length, fields_none) (omega (arith, digits-length 10 line))

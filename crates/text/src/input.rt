@@ -39,18 +39,20 @@ fn read_line(s: &[u8], at: usize) -> Option<(Call, usize)>
     Some((Call { n, a, b, c }, next))
 }
 
-// Reads every line, 256 at the most, and says how many.
+// Reads every line, 256 at the most, and says how many. The words go to an array that is lent whole, for every word of it is spoken of,
+// after a bad line too.
 pub fn read_calls(s: &[u8], calls: &mut [u32; 1024]) -> Result<u32, BadLine>
     ensures { TextRead s.now calls.old calls.new result }
 {
     let mut at = 0;
     let mut n = 0;
-    // A line ends where it is read to, so each step begins where the one before it stopped: no iterator says that plainer.
+    // By places and not by an iterator of lines, for a number is read at a place of the whole text (`NumberRead`).
     while at < s.len() {
         if n == MOST_CALLS {
             return Err(BadLine { line: n + 1 });
         }
         let (call, next) = read_line(s, at).ok_or(BadLine { line: n + 1 })?;
+        // A call's words are put down once, here: no `From` would be plainer.
         write_row(calls, n as usize, [call.n, call.a, call.b, call.c]);
         at = next;
         n += 1;

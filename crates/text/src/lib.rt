@@ -27,7 +27,7 @@ pub fn desk(text: &[u8]) -> Page
     }
 }
 
-// Runs the calls and prints what they give.
+// Runs the calls and prints what they give. Their number was counted as they were read, and is not divided out again.
 fn answer(calls: &[u32], n: u32) -> Page
     requires { (length calls.now ≡ 4 * n) × (n ≤ 256) }
     ensures { result.items ≡ midway_lines (midway (desk_lent calls.now) n) n }

@@ -26,7 +26,7 @@ fn value(run: &[u8]) -> Option<u32>
     }
 }
 
-// Reads a number, and says where it ends.
+// Reads a number, and says where it ends: a place in the whole text, as the definitions have it.
 pub fn read_number(s: &[u8], at: usize) -> Option<(u32, usize)>
     requires { at ≤ length s.now }
     ensures { NumberRead s.now at result }

@@ -9,17 +9,17 @@ use arrayvec::ArrayVec;
 use itoa::Buffer;
 
 // Writes a number.
-fn put_number(out: &mut Page, x: u32)
-    requires { array_vec_len out.old + length (decimal x) ≤ 32768 }
+fn put_number<const ROOM: usize>(out: &mut ArrayVec<u8, ROOM>, x: u32)
+    requires { array_vec_len out.old + length (decimal x) ≤ ROOM }
     ensures { out.new.items ≡ out.old.items ++ decimal x }
 {
     let mut digits = Buffer::new();
     let _fits = out.try_extend_from_slice(digits.format(x).as_bytes());
 }
 
-// Writes a line: a letter, and numbers, each behind a tab.
-fn put_line(out: &mut Page, letter: u8, words: &[u32])
-    requires { array_vec_len out.old + length (fields words.now) + 2 ≤ 32768 }
+// Writes a line: a letter, and numbers, each behind a tab. The letter is the byte that stands there.
+pub fn put_line<const ROOM: usize>(out: &mut ArrayVec<u8, ROOM>, letter: u8, words: &[u32])
+    requires { array_vec_len out.old + length (fields words.now) + 2 ≤ ROOM }
     ensures { out.new.items ≡ out.old.items ++ ((letter ∷ fields words.now) ++ newline) }
 {
     out.push(letter);
@@ -52,7 +52,7 @@ fn put_records(out: &mut Page, log: &[u32], place: u32)
 }
 
 // Each call's answer, A, place, code and three values, then its records. 256 answers and 512 records fit: 50 bytes and 39 bytes
-// at the most.
+// at the most. The two numbers say how far the tables are read, for the lines are promised of whole tables.
 pub fn put_run(answers: &[u32], log: &[u32], n: u32, records: u32) -> Page
     requires n_bound { (n ≤ 256) × (4 * n ≤ length answers.now) }
     requires records_bound { (records ≤ 512) × (4 * records ≤ length log.now) }

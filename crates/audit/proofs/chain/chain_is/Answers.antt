@@ -33,24 +33,25 @@ returns-in_default c =
     let l = c.loop in
     decided_not (λ h. c.in_default.ensures (starts a.slots.words.now a.slots.mark l.before a.n l.counter (omega arith) l.word (l.invariant.onward h)))
 
-pub returns-then-not-link_holds : goal.returns-then-not-link_holds
-returns-then-not-link_holds c =
+pub returns-in_default-next_of : goal.returns-in_default-next_of
+returns-in_default-next_of c =
     let a = c.args in
     let l = c.loop in
     let e : l.word ≡ suc c.in-Some.slot = omega (arith, c.in-Some.ensures) in
     decided_not
-    (λ h. c.link_holds.ensures.not_so c.if-not-link_holds.true (step a.slots.words.now a.slots.mark l.before a.n l.counter (omega arith) c.in-Some.slot (rw e at (l.invariant.onward h))).0)
+    (λ h. c.in_default-next_of.ensures (step a.slots.words.now a.slots.mark l.before a.n l.counter (omega arith) c.in-Some.slot (rw e at (l.invariant.onward h))).0)
 
 pub loop-preserved : goal.loop-preserved
 loop-preserved c =
     let a = c.args in
     let l = c.loop in
     let slot = c.in-Some.slot in
+    let (holds, next) = c.in-Some-next_of.ensures in
     let e : l.word ≡ suc slot = omega (arith, c.in-Some.ensures) in
     record {
-      onward = λ h. rw e (step a.slots.words.now a.slots.mark l.before a.n l.counter (omega arith) slot (rw e at (l.invariant.onward h))).1;
+      onward = λ h. rw (e, next) (step a.slots.words.now a.slots.mark l.before a.n l.counter (omega arith) slot (rw e at (l.invariant.onward h))).1;
       back =
           λ w.
           l.invariant.back
-          (rw e (unstep a.slots.words.now a.slots.mark l.before a.n l.counter (omega arith) slot (c.link_holds.ensures.so c.if-not-link_holds.false, rw e at w)));
+          (rw e (unstep a.slots.words.now a.slots.mark l.before a.n l.counter (omega arith) slot (holds, rw (e, next) at w)));
     }

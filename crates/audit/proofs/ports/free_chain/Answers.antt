@@ -6,7 +6,7 @@ use Rattle.audit.proofs.FreeLaws.{walked_none, walked_more, walked_stuck, walked
 use Rattle.audit.proofs.ports.free_chain.Goals as goal
 
 pub loop-first-init : goal.loop-first-init
-loop-first-init c = walked_none _ _ _ _ _ _ _ c.requires.2
+loop-first-init c = walked_none _ _ _ _ _ _ _ c.requires.3
 
 pub returns-then-not-free_slab_holds : goal.returns-then-not-free_slab_holds
 returns-then-not-free_slab_holds c =

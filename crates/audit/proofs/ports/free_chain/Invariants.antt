@@ -4,7 +4,7 @@ use Rattle.audit.proofs.FreeLaws.{Walked}
 use Rattle.audit.proofs.ports.free_chain.Given as goal
 
 abbrev pub invariant-loop-first : goal.invariant-loop-first
-invariant-loop-first l = Walked l.links l.owners l.initial.scratch l.mark l.head l.size l.scratch l.ports l.word
+invariant-loop-first l = Walked l.below.links.now l.below.owners.now l.initial.scratch l.below.mark l.head l.size l.scratch l.ports l.word
 
 abbrev pub decreases-loop-first : goal.decreases-loop-first
-decreases-loop-first l = l.mark - l.ports
+decreases-loop-first l = l.below.mark - l.ports

@@ -1,8 +1,6 @@
 -- A store that fits gives what packing asks, and the packed slots fit as those of the store did.
 use native.Mathlib.Omega.{arith}
-use mathlib.Core.Path.{subst, ◌∙◌}
-use Rattle.slabs.proofs.FillLaws.{fill_whole}
-use Rattle.renumber.specs.Compact.{ports_compacted, emptied_above}
+use mathlib.Core.Path.{subst}
 use Rattle.renumber.specs.Room.{RecordRoom}
 use Rattle.renumber.proofs.PackLaws.{fits_wider, followed_slots-length, followed_slots_fit}
 use Rattle.renumber.proofs.compact.compact_ports.Goals as goal
@@ -30,18 +28,3 @@ drop_slabs-requires c =
       rw followed_slots-length (omega arith),
       followed_slots_fit _ _ _ _ _ _ fit.node_room fit.owners_inside (fits_wider _ _ _ _ 32768 1048576 fit.few_heads fit.few_ports fit.live),
     )
-
-pub returns-clause-words : goal.returns-clause-words
-unfolding ports_compacted emptied_above
-returns-clause-words c =
-    let packed = c.pack_ports-ports.ensures.words in
-    record {
-      store_after = record {
-        slots_after = rw packed.slots_after at c.drop_slabs.ensures;
-        links_after = rw (packed.links_after, packed.counted) at c.fill.ensures;
-        owners_after = rw (packed.owners_after, packed.counted) at c.fill-2.ensures;
-        heads_after = c.fill-3.ensures.after (λ y e. e) ∙ fill_whole c.args.tables.now.heads.now 0;
-        counters_after = c.ports_packed.ensures;
-      };
-      log_after = packed.log_after;
-    }

@@ -1,6 +1,4 @@
 -- Each of the two runs of removed ports is cut and recorded by its call, the second where the first left off.
-use mathlib.Core.Path.{◌∙◌}
-use Rattle.renumber.proofs.RecordLaws.{later_again}
 use Rattle.renumber.proofs.ResizeParts.{cut_both}
 use Rattle.renumber.proofs.resize.cut_removed.Goals as goal
 
@@ -9,7 +7,3 @@ returns-clause-words c =
     cut_both
     (rw (c.inlets_kept.ensures, c.inlets_removed.ensures) at c.remove_ports-wires.ensures.words)
     (rw (c.remove_ports-wires.ensures.next, c.inlets_removed.ensures, c.outlets_kept.ensures, c.outlets_removed.ensures) at c.remove_ports.ensures.words)
-
-pub returns-clause-next : goal.returns-clause-next
-returns-clause-next c =
-    c.remove_ports.ensures.next ∙ rw (c.remove_ports-wires.ensures.next, c.inlets_removed.ensures, c.outlets_removed.ensures) (later_again _ _ _)

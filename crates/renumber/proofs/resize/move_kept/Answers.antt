@@ -1,6 +1,4 @@
 -- The kept inlets move as one run and the kept outlets as another, each recorded, the second where the first left off.
-use mathlib.Core.Path.{◌∙◌}
-use Rattle.renumber.proofs.RecordLaws.{later_again}
 use Rattle.renumber.proofs.ResizeParts.{moved_both}
 use Rattle.renumber.proofs.resize.move_kept.Goals as goal
 
@@ -11,7 +9,3 @@ returns-clause-words c =
     (rw c.outlets_kept.ensures at c.move_ports-2.ensures)
     (rw c.inlets_kept.ensures at c.record_moves.ensures.words)
     (rw (c.record_moves.ensures.next, c.inlets_kept.ensures, c.outlets_kept.ensures) at c.record_moves-2.ensures.words)
-
-pub returns-clause-next : goal.returns-clause-next
-returns-clause-next c =
-    c.record_moves-2.ensures.next ∙ rw (c.record_moves.ensures.next, c.inlets_kept.ensures, c.outlets_kept.ensures) (later_again _ _ _)

@@ -2,13 +2,8 @@
 use mathlib.Core.Path.{sym, ◌∙◌, ap}
 use native.Mathlib.Omega.{arith}
 use Rattle.slabs.specs.declared.counters.Counters.{Counters}
-use Rattle.renumber.proofs.RecordLaws.{later_again}
-use Rattle.renumber.proofs.ResizeLaws.{records_in_place, records_into}
-use Rattle.renumber.proofs.ResizeParts.{small_change, few_live, can_cut, can_shift, resized_in_place_lem, can_reallocate, resized_into_lem}
+use Rattle.renumber.proofs.ResizeParts.{small_change, few_live, can_shift, resized_in_place_lem, can_reallocate, resized_into_lem}
 use Rattle.renumber.proofs.resize.resize.Goals as goal
-
-pub cut_removed-wires-requires : goal.cut_removed-wires-requires
-cut_removed-wires-requires c = can_cut c.requires.0 c.requires.1
 
 pub ports_recounted-cut-requires : goal.ports_recounted-cut-requires
 ports_recounted-cut-requires c =
@@ -36,15 +31,3 @@ returns-clause-words c =
     resized_into_lem c.requires.0 c.requires.1 c.cut_removed-wires.ensures.words (rw c.links_uncounted.ensures at c.ports_recounted-cut.ensures)
     (sym c.is_in_place.ensures ∙ c.if-is_in_place.false)
     (rw c.cut_removed-wires.ensures.next at c.reallocate.ensures.words)
-
-pub returns-then-is_in_place-clause-next : goal.returns-then-is_in_place-clause-next
-returns-then-is_in_place-clause-next c =
-    rw
-    (c.shift.ensures.next, c.cut_removed-wires.ensures.next, records_in_place c.args.change (sym c.is_in_place.ensures ∙ c.if-is_in_place.true))
-    (later_again _ _ _)
-
-pub returns-clause-next : goal.returns-clause-next
-returns-clause-next c =
-    rw
-    (c.reallocate.ensures.next, c.cut_removed-wires.ensures.next, records_into c.args.change (sym c.is_in_place.ensures ∙ c.if-is_in_place.false))
-    (later_again _ _ _)

@@ -10,7 +10,7 @@ on_ok (Ok x) h p = p
 on_ok (Err e) h p = cc
 
 pub returns : goal.returns
-returns c =
+returns g c =
     let x = c.args.x in
     let put = c.try_extend_from_slice-fits in
     let digits : c.as_bytes.result.now ≡ decimal x = c.as_bytes.ensures.value ∙ c.format.ensures.text ∙ sym (same_decimal x (omega arith)) in
