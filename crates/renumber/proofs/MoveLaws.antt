@@ -8,7 +8,7 @@ use mathlib.Core.Path.{◌≡◌, refl, ◌∙◌}
 use mathlib.Core.Bool.{Bool, true, false}
 use Rattle.slabs.specs.Choice.{pick}
 use Rattle.slabs.specs.Links.{Inside}
-use Rattle.slabs.proofs.Shapes.{set_inside, cut_run-length, cut_run_inside, wires_in_le, wired_at_le}
+use Rattle.slabs.proofs.Shapes.{set_inside}
 use Rattle.renumber.specs.Moves.{carried, moved, turn, moved_run}
 use Rattle.renumber.specs.declared.moves.Run.{Run}
 
@@ -69,6 +69,3 @@ moved_run_inside links run (suc i) b l h =
 
 -- What a loop over a run needs of the words that it has moved.
 pub ruleset run_laws = (turn_below, moved_run-length, moved_run_inside)
-
--- What a loop over removed ports needs of the words that it has cut.
-pub ruleset cut_laws = (cut_run-length, cut_run_inside, wires_in_le, wired_at_le)

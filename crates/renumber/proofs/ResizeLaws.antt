@@ -7,12 +7,12 @@ use native.Mathlib.Omega.{arith}
 use native.Mathlib.Decide.{dec_lt, dec_le}
 use native.Mathlib.Nat.{pow-suc, pow-le-pow_right, one-le-pow}
 use lib.ListN.{length, get_or, set, length-set, length-append}
-use lib.Dec.{eqb, ltb, leb}
-use borrow.Author.Tests.{ne_eqb, lt-ltb, le-ltb, leb-true, ltb-true, eqb-false}
+use lib.Dec.{eqb, ltb}
+use borrow.Author.Tests.{lt-ltb, le-ltb, ltb-true, eqb-false}
 use Rattle.std.specs.Int.{IsPowerOfTwo}
 use Rattle.slabs.specs.Choice.{pick}
 use Rattle.slabs.specs.Links.{Inside}
-use Rattle.slabs.specs.Slab.{head_of, at_hand, taken_first, taken_links, taken_heads}
+use Rattle.slabs.specs.Slab.{head_of, taken_links, taken_heads}
 use Rattle.slabs.proofs.Shapes.{set_inside, cut_run-length, cut_run_inside, wires_in_le}
 use Rattle.edits.specs.Store.{Store}
 use Rattle.renumber.specs.Records.{Rec, logged}
@@ -214,22 +214,6 @@ taken_heads-length links heads size = go (eqb (head_of heads size) 0)
     go : (t : Bool) → length (pick t heads (set heads (size - 1) (get_or links (head_of heads size - 1) 0))) ≡ length heads
     go true = refl
     go false = simp length-set
-
--- Where each chain's first slab lies in the tables, a head word is 0 or leads to a port of them,
-pub head_room : (word size room : ℕ) → 1 ≤ size → ((first : ℕ) → word ≡ suc first → first + size ≤ room) → word ≤ room
-head_room zero size room some inside = omega arith
-head_room (suc first) size room some inside = omega (arith, inside first refl)
-
--- and so does a slab that is taken.
-pub taken_room : (heads : List ℕ) (mark room size : ℕ) → at_hand heads mark room size ≡ true
-    → ((first : ℕ) → head_of heads size ≡ suc first → first + size ≤ room) → taken_first heads mark size + size ≤ room
-unfolding at_hand taken_first
-taken_room heads mark room size had inside = go (head_of heads size) had inside
-  where
-    go : (w : ℕ) → pick (eqb w 0) (leb (mark + size) room) true ≡ true → ((first : ℕ) → w ≡ suc first → first + size ≤ room)
-        → pick (eqb w 0) mark (w - 1) + size ≤ room
-    go zero h low = leb-true (mark + size) room h
-    go (suc first) h low = rw (ne_eqb (suc first) 0 (omega arith)) (omega (arith, low first refl))
 
 -- Moving the kept ports into a new slab leaves the length of the link words,
 pub moved_into-length : (links : List ℕ) (ch : Change) (first : ℕ) → length (moved_into links ch first) ≡ length links

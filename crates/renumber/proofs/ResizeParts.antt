@@ -22,7 +22,8 @@ use Rattle.renumber.specs.declared.resize.Change.{Change}
 use Rattle.renumber.proofs.RecordLaws.{logged-length, removed_records-length, moved_records-length}
 use Rattle.renumber.proofs.PackLaws.{fits_wider}
 use Rattle.edits.proofs.CountLaws.{live_ports_le}
-use Rattle.renumber.proofs.ResizeLaws.{slab_size_some, slab_size_covers, in_place_fits, records_in_place, records_into, records_removed, cut_removed-length, cut_removed_inside, cut_records-length, logged_after, taken_links-length, taken_links_inside, taken_heads-length, head_room, taken_room, moved_into-length, moved_into_inside}
+use Rattle.edits.proofs.TakeLaws.{head_inside, taken_ends}
+use Rattle.renumber.proofs.ResizeLaws.{slab_size_some, slab_size_covers, in_place_fits, records_in_place, records_into, records_removed, cut_removed-length, cut_removed_inside, cut_records-length, logged_after, taken_links-length, taken_links_inside, taken_heads-length, moved_into-length, moved_into_inside}
 
 -- Cutting the removed inlets and then the removed outlets, with their records, is cutting the removed ports.
 pub cut_both : {links log links' log' links'' log'' : List ℕ} {to : LogPlace} {ch : Change} {wires wires' : ℕ}
@@ -57,7 +58,7 @@ module _ {slots links owners heads log : List ℕ} {c : Counters} {to : LogPlace
     some = slab_size_some _;
     sized = can.sized;
     small = can.small;
-    head_inside = head_room _ (new_size ch) _ (slab_size_some _) can.head_inside;
+    head_inside = head_inside _ (new_size ch) _ (slab_size_some _) can.head_inside;
     had = can.slab;
   })
 
@@ -69,7 +70,7 @@ module _ {slots links owners heads log : List ℕ} {c : Counters} {to : LogPlace
     pub taken_holds : taken + ch.inlets + ch.outlets ≤ length links
     taken_holds =
         rw took.first
-        (omega (arith, can.small_change, taken_room heads c.portmark (length links) (new_size ch) can.slab can.head_inside, slab_size_covers (ch.inlets + ch.outlets) (omega (arith, can.small_change))))
+        (omega (arith, can.small_change, taken_ends heads c.portmark (length links) (new_size ch) can.slab can.head_inside, slab_size_covers (ch.inlets + ch.outlets) (omega (arith, can.small_change))))
 
     taken_length : length links' ≡ length links
     taken_length = ap length took.links_after ∙ taken_links-length links heads (new_size ch)

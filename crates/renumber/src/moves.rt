@@ -23,7 +23,7 @@ fn record_removed(links: &[u32], log: &mut Log<'_>, port: u32)
 
 // Cuts n removed ports from `first` on, by rising number, and records each with the partner that it has at that moment.
 // Says how many wires were cut.
-#[tactic(auto, using(crate::proofs::MoveLaws::cut_laws, crate::proofs::RecordLaws::log_laws), unfolding(slabs::specs::Links::cut_run, slabs::specs::Links::wires_in, crate::specs::Moves::removed_records))]
+#[tactic(auto, using(slabs::proofs::Shapes::cut_laws, crate::proofs::RecordLaws::log_laws), unfolding(slabs::specs::Links::cut_run, slabs::specs::Links::wires_in, crate::specs::Moves::removed_records))]
 pub fn remove_ports(links: &mut [u32], log: &mut Log<'_>, first: u32, n: u32) -> u32
     requires { CanCut links.old log.old.words.now log.old.to first n }
     ensures memory { SameLog log.old log.new }

@@ -161,7 +161,7 @@ pub fn resize_answer(
 }
 
 // Cuts the removed inlets, then the removed outlets, with their records. Says how many wires went.
-#[tactic(auto, using(crate::proofs::MoveLaws::cut_laws, crate::proofs::RecordLaws::log_laws, crate::proofs::RecordLaws::later_again))]
+#[tactic(auto, using(slabs::proofs::Shapes::cut_laws, crate::proofs::RecordLaws::log_laws, crate::proofs::RecordLaws::later_again))]
 fn cut_removed(links: &mut [u32], log: &mut Log<'_>, change: Change) -> u32
     requires { CanCutRemoved links.old log.old.words.now log.old.to change }
     ensures memory { SameLog log.old log.new }

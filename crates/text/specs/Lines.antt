@@ -82,7 +82,8 @@ run_lines answers log records (suc n) = run_lines answers log records n ++ (answ
 abbrev pub error_line : ℕ → List ℕ
 error_line line = (69 ∷ fields (line ∷ [])) ++ newline
 
--- what the desk lends to its run for the words of some calls: 64 slots, 512 ports, 128 slab heads and 512 records, all zero
+-- what the desk lends to its run for the words of some calls: zeros, with room for 64 steps, 512 ports, slabs of up to 128 ports, and as
+-- many records as ports
 abbrev pub desk_lent : List ℕ → Lent
 desk_lent words =
     record {

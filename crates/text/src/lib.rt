@@ -16,7 +16,7 @@ use slabs::counters::Counters;
 // What the desk prints. A page has room for every line that 256 calls can give.
 pub type Page = ArrayVec<u8, 32768>;
 
-// Answers a text of calls over an empty store of 64 slots, 512 ports, 128 slab heads and 512 records.
+// Answers a text of calls over an empty store, whose room `desk_lent` names.
 pub fn desk(text: &[u8]) -> Page
     ensures { Printed text.now result }
 {
