@@ -155,6 +155,10 @@ module _ (links owners heads scratch₀ : List ℕ) (mark : ℕ) (scratch : List
       at : (p : ℕ) → sum_of (λ f. in_slab f (suc i) p) (chains i) ≡ sum_of (λ f. in_slab f (i + 1) p) firsts
       at p = rw here (rw add-one)
 
+  -- where there is none nothing is to be claimed,
+  pub free_skip : get_or heads i 0 ≡ 0 → FreeSoFar links owners heads scratch₀ mark scratch ports (i + 1)
+  free_skip e = free_more scratch ports (walked_all _ _ _ _ _ _ _ _ _ (walked_none _ _ _ _ _ _ _ s.tally) e)
+
   -- or cannot be.
   pub free_stuck : (n : ℕ) → i < n
       → ((firsts : List ℕ) → FreeSlabs links owners mark (get_or heads i 0) (i + 1) firsts

@@ -28,10 +28,10 @@ fn chain_is(slots: Slots<'_>, head: u32, n: u32) -> bool
     let mut word = head;
     let mut before = 0;
     for _ in 0..n {
-        let Some(slot) = word.checked_sub(1) else {
+        if word == 0 {
             return false;
-        };
-        let Some(next) = next_of(slots, slot, before) else {
+        }
+        let Some(next) = next_of(slots, word - 1, before) else {
             return false;
         };
         before = word;

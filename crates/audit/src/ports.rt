@@ -79,6 +79,7 @@ fn held_slabs(view: View<'_>, scratch: &mut [u32], counters: Counters) -> Option
 }
 
 // The chain of one size, from its head word. Each slab claims ports that nobody has, so the walk ends.
+#[inline(never)]
 fn free_chain(
     below: Ports<'_>,
     scratch: &mut [u32],
@@ -93,7 +94,8 @@ fn free_chain(
     let mut word = head;
     // The chain's next word is read once its slab is claimed: an iterator of the chain would read the words before they are known to
     // lie inside.
-    while let Some(first) = word.checked_sub(1) {
+    while word != 0 {
+        let first = word - 1;
         if !free_slab_holds(below, scratch, first, size) {
             return None;
         }
@@ -115,6 +117,10 @@ fn free_slabs(view: View<'_>, scratch: &mut [u32], mark: u32, claimed: u32) -> O
     };
     let mut ports = claimed;
     for (index, head) in view.heads.iter().enumerate() {
+        // Most sizes have no free slab. They are passed by here, before a call, so that the loop over them stays small.
+        if *head == 0 {
+            continue;
+        }
         ports = free_chain(below, scratch, *head, index as u32 + 1, ports)?;
     }
     Some(ports)

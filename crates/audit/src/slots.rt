@@ -45,7 +45,12 @@ pub fn slots_hold(slots: Slots<'_>, heads: usize) -> bool
 pub fn live_slots(slots: Slots<'_>) -> u32
     ensures { result ≡ live_slots slots.entry.words.now slots.entry.mark }
 {
-    (0..slots.mark)
-        .filter(|slot| slots.live(*slot).is_some())
-        .count() as u32
+    // The one word that tells: this pass reads no more of a slot.
+    let mut live = 0;
+    for k in 0..slots.mark {
+        if slots.words[WIDTH * k as usize + 1] != 0 {
+            live += 1;
+        }
+    }
+    live
 }

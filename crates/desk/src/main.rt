@@ -10,5 +10,6 @@ use std::io::{self, Write};
 fn main(rt: HostRuntime) -> io::Result<()> {
     let mut text = [0u8; 11265];
     let n = read_full(&mut rt.stdin(), &mut text)?;
-    rt.stdout().write_all(&text::desk(&text[..n]))
+    let page = text::desk(&text[..n]);
+    rt.stdout().write_all(&page.bytes[..page.len])
 }

@@ -1,5 +1,5 @@
 -- Laws of resize: the size of the new slab, how many ports go and how many stay, and what each step leaves of a table's shape.
-use Prim.Native.Nat.{ℕ, suc, zero, ◌+◌, ◌-◌, ◌*◌, ◌/◌, ◌^◌, ◌≤◌, ◌<◌, max}
+use Prim.Native.Nat.{ℕ, suc, zero, ◌+◌, ◌-◌, ◌*◌, ◌/◌, ◌^◌, ◌≤◌, ◌<◌, min, max}
 use mathlib.Core.Path.{◌≡◌, refl, sym, ◌∙◌}
 use mathlib.Core.Bool.{Bool, true, false, false≢true}
 use mathlib.Core.List.{List, ◌++◌}
@@ -133,6 +133,10 @@ in_place_fits ch h = go (eqb (ch.inlets + ch.outlets) 0) refl h
         → (1 ≤ ch.inlets + ch.outlets) × (ch.inlets + ch.outlets < ch.meta.capacity)
     go true e d = absurd (false≢true d)
     go false e d = (omega (arith, eqb-false (ch.inlets + ch.outlets) 0 e), ltb-true _ _ d)
+
+-- Of so many ports those that are kept and those that are removed are all.
+pub kept_removed : (before after : ℕ) → min before after + (before - after) ≡ before
+kept_removed before after = omega arith
 
 -- In place the removed ports are recorded, and the kept outlets, which move,
 pub records_in_place : (ch : Change) → is_in_place ch ≡ true → records_needed ch ≡ inlets_removed ch + outlets_removed ch + outlets_kept ch

@@ -1,5 +1,5 @@
 // Lines of a session: a letter and so many numbers, each after a tab.
-ghost use Rattle.std.specs.Prelude.{◌<◌, length, IfSome};
+ghost use Rattle.std.specs.Prelude.{◌≡◌, ◌-◌, ◌<◌, length, drop, IfSome};
 
 // What a line says, if it says something.
 #[derive(Clone, Copy)]
@@ -82,7 +82,8 @@ fn parse(line: &[u8]) -> Option<Line> {
 // The first line of a text, which ends with a newline or with the text, or none where it is to be skipped; and what
 // follows it. None where there is no text left.
 pub fn read_line(text: &[u8]) -> Option<(Option<Line>, &[u8])>
-    ensures { IfSome result (λ parts. length parts.1.now < length text.now) }
+    ensures less { IfSome result (λ parts. length parts.1.now < length text.now) }
+    ensures rest { IfSome result (λ parts. parts.1.now ≡ drop (length text.now - length parts.1.now) text.now) }
 {
     if text.is_empty() {
         return None;

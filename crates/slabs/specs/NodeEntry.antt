@@ -2,7 +2,7 @@
 use Rattle.std.specs.Prelude.{ℕ, ◌+◌, ◌-◌, ◌*◌, List, get_or, set, eqb}
 use Rattle.slabs.specs.Choice.{pick}
 use Rattle.slabs.specs.declared.node_entry.NodeMeta.{NodeMeta}
-use Rattle.std.specs.declared.ops.Range.{Range}
+use Rattle.slabs.specs.declared.node_entry.PortRange.{PortRange}
 use Rattle.slabs.specs.declared.node_entry.NodeEntry.{NodeEntry}
 use Rattle.slabs.specs.declared.node_entry.NodeEntry.TheVariants.{Free, Node}
 
@@ -38,11 +38,11 @@ inlets_of (Free previous next) = 0
 inlets_of (Node m) = m.inlets
 
 -- the slab of a live slot: its inlets first, then its outlets, then what is spare
-abbrev pub inlet_ports : NodeMeta → Range ℕ
+abbrev pub inlet_ports : NodeMeta → PortRange
 inlet_ports m = record { start = m.first; end = m.first + m.inlets }
 
-abbrev pub outlet_ports : NodeMeta → Range ℕ
+abbrev pub outlet_ports : NodeMeta → PortRange
 outlet_ports m = record { start = m.first + m.inlets; end = m.first + m.inlets + m.outlets }
 
-abbrev pub spare_ports : NodeMeta → Range ℕ
+abbrev pub spare_ports : NodeMeta → PortRange
 spare_ports m = record { start = m.first + m.inlets + m.outlets; end = m.first + m.capacity }

@@ -3,7 +3,6 @@ ghost use Rattle.std.specs.Prelude.{◌≡◌, ◌+◌, ◌*◌, ◌≤◌, leng
 ghost use Rattle.slabs.specs.NodeEntry.{width, node_entry, set_entry, inlets_of, inlet_ports, outlet_ports, spare_ports};
 
 use crate::rows::{read_row, write_row};
-use std::ops::Range;
 
 // The words of a slot. A later request adds a fifth.
 pub const WIDTH: usize = 4;
@@ -25,28 +24,44 @@ pub enum NodeEntry {
     Node(NodeMeta),
 }
 
+// Ports from `start` up to, and not including, `end`. std's `Range` is no `Copy`, and whoever holds this may use it twice.
+#[derive(Clone, Copy, PartialEq, Eq)]
+pub struct PortRange {
+    pub start: usize,
+    pub end: usize,
+}
+
 // The ports of a live slot, each kind in a row.
 impl NodeMeta {
-    pub fn inlet_ports(self) -> Range<usize>
+    pub fn inlet_ports(self) -> PortRange
         ensures { result ≡ inlet_ports self }
     {
         let start = self.first as usize;
-        start..start + self.inlets as usize
+        PortRange {
+            start,
+            end: start + self.inlets as usize,
+        }
     }
 
-    pub fn outlet_ports(self) -> Range<usize>
+    pub fn outlet_ports(self) -> PortRange
         ensures { result ≡ outlet_ports self }
     {
         let start = self.first as usize + self.inlets as usize;
-        start..start + self.outlets as usize
+        PortRange {
+            start,
+            end: start + self.outlets as usize,
+        }
     }
 
-    pub fn spare_ports(self) -> Range<usize>
+    pub fn spare_ports(self) -> PortRange
         ensures { result ≡ spare_ports self }
     {
         let first = self.first as usize;
         let start = first + self.inlets as usize + self.outlets as usize;
-        start..first + self.capacity as usize
+        PortRange {
+            start,
+            end: first + self.capacity as usize,
+        }
     }
 }
 

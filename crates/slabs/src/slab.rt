@@ -37,12 +37,16 @@ pub fn take_slab(
 }
 
 // Writes one word to n places of a table from `first` on. It has the whole table, for it promises that the others stay.
-#[tactic(auto, using(crate::proofs::FillLaws::fill_mid))]
+#[tactic(auto, unfolding(crate::specs::Slab::filled))]
 pub fn fill(table: &mut [u32], first: usize, n: usize, word: u32)
     requires { first + n ≤ length table.old }
     ensures { table.new ≡ filled table.old first n word }
 {
-    table[first..first + n].fill(word);
+    // Place by place, which the compiler turns into whole vectors of words. std's `fill` writes the last place by itself, so that the
+    // owner words of a step of eight ports are no vector.
+    for i in 0..n {
+        table[first + i] = word;
+    }
 }
 
 // Writes the owner words of a node's inlets and outlets, from `first` on. The three are any numbers; a `NodeMeta` would ask more.

@@ -1,10 +1,11 @@
 -- Laws of a list of calls: one call more, as text, as words, and as words that are stored.
-use Prim.Native.Nat.{ℕ, ◌+◌, ◌*◌}
+use Prim.Native.Nat.{ℕ, suc, ◌+◌, ◌*◌, ◌≤◌}
 use mathlib.Core.Path.{◌≡◌, refl, sym, ◌∙◌, ap}
 use mathlib.Core.List.{List, [], ◌∷◌, ◌++◌, append_assoc, append-nil}
 use native.Mathlib.Omega.{arith}
-use lib.ListN.{length, drop}
-use lib.Seq.{take_at, drop_at}
+use native.Mathlib.Nat.{add-zero, zero-add}
+use lib.ListN.{length, drop, set}
+use lib.Seq.{sets, sets-eq, take_at, drop_at}
 use Rattle.std.proofs.lemmas.Slice.{drop-append-drop}
 use Rattle.slabs.specs.Rows.{set_row}
 use Rattle.calls.specs.declared.Call.{Call}
@@ -37,6 +38,19 @@ pub words_length : (calls : List Call) → length (call_words calls) ≡ 4 * len
 unfolding call_words
 words_length [] = refl
 words_length (x ∷ calls) = omega (arith, words_length calls)
+
+-- Words that are stored behind others are stored with them.
+pub sets_append : (l xs ys : List ℕ) (i : ℕ) → sets (sets l i xs) (i + length xs) ys ≡ sets l i (xs ++ ys)
+sets_append l [] ys i = rw add-zero
+sets_append l (x ∷ xs) ys i =
+    let e : i + suc (length xs) ≡ suc i + length xs = omega arith in
+    rw e (sets_append (set l i x) xs ys (suc i))
+
+-- What is stored at the front stands there, and the rest stays.
+pub sets_front : (l xs : List ℕ) → length xs ≤ length l → sets l 0 xs ≡ xs ++ drop (length xs) l
+sets_front l xs h =
+    let k : 0 + length xs ≤ length l = omega arith in
+    sets-eq xs l 0 k ∙ rw zero-add
 
 -- A row that is written behind others stands behind them.
 pub set_row_behind : (xs ys l : List ℕ) (wide row : ℕ) → length xs ≡ wide * row → set_row (xs ++ drop (wide * row) l) wide row ys ≡ xs ++ ys ++ drop (wide * row + wide) l

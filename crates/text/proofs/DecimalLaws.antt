@@ -22,9 +22,27 @@ pub digits_snoc : (most n : ℕ) → 10 ≤ n → digits (suc most) n ≡ digits
 unfolding digits
 digits_snoc most n h = simp (le-ltb n 10 h)
 
+-- Ten times a number and a digit: the digit stands behind the number's.
+pub digits_grow : (most v d : ℕ) → 1 ≤ v → d < 10 → digits (suc most) (10 * v + d) ≡ digits most v ++ ((48 + d) ∷ [])
+digits_grow most v d hv hd =
+    let quot : (10 * v + d) / 10 ≡ v = omega arith in
+    let rem : (10 * v + d) % 10 ≡ d = omega arith in
+    digits_snoc most (10 * v + d) (omega arith) ∙ rw (quot, rem)
+
 -- A tenth has a digit less.
 tenth_lt : (m n : ℕ) → n < 10 ^ suc m → n / 10 < 10 ^ m
 tenth_lt m n h = let e : 10 ^ suc m ≡ 10 ^ m * 10 = pow-suc 10 m in omega arith
+
+-- Room for more digits than a number has changes nothing.
+pub digits_more : (m n : ℕ) → n < 10 ^ suc m → digits (suc (suc m)) n ≡ digits (suc m) n
+digits_more zero n h = digits_one 1 n h ∙ sym (digits_one 0 n h)
+digits_more (suc m) n h = go (dec_lt n 10) (digits_more m (n / 10) (tenth_lt (suc m) n h))
+  where
+    go : Dec (n < 10) → digits (suc (suc m)) (n / 10) ≡ digits (suc m) (n / 10) → digits (suc (suc (suc m))) n ≡ digits (suc (suc m)) n
+    go (yes k) e = digits_one (suc (suc m)) n k ∙ sym (digits_one (suc m) n k)
+    go (no k) e =
+        let b : 10 ≤ n = omega arith in
+        digits_snoc (suc (suc m)) n b ∙ rw e (sym (digits_snoc (suc m) n b))
 
 -- Two runs of digits make one.
 pub append_all : (xs ys : List ℕ) → AllDigits xs → AllDigits ys → AllDigits (xs ++ ys)
@@ -66,6 +84,16 @@ digits_short (suc more) (suc m) n h = go (dec_lt n 10) (digits_short more m (n /
     go (no k) e =
         let b : 10 ≤ n = omega arith in
         rw (digits_snoc (suc more) n b) (simp length-append (omega arith))
+
+-- Every number has a digit.
+pub digits_some : (most n : ℕ) → 1 ≤ length (digits (suc most) n)
+digits_some most n = go (dec_lt n 10)
+  where
+    go : Dec (n < 10) → 1 ≤ length (digits (suc most) n)
+    go (yes k) = rw (digits_one most n k) (omega arith)
+    go (no k) =
+        let b : 10 ≤ n = omega arith in
+        rw (digits_snoc most n b) (simp length-append (omega arith))
 
 lead_append : (xs ys : List ℕ) → 49 ≤ get_or xs 0 0 → 49 ≤ get_or (xs ++ ys) 0 0
 lead_append [] ys h = omega arith
@@ -132,6 +160,16 @@ pub numbers_same : (v w : ℕ) (r q : List ℕ) → v < 2 ^ 32 → w < 2 ^ 32 �
 numbers_same v w r q hv hw hr hq e =
     let both : (decimal v ≡ decimal w) × (r ≡ q) = runs_same (decimal v) (decimal w) r q (digits_all 10 v) (digits_all 10 w) hr hq e in
     (digits_same 10 v w (omega arith) (omega arith) both.0, both.1)
+
+-- A digit behind a number makes ten times the number and the digit.
+pub decimal_grow : (v d : ℕ) → 1 ≤ v → v < 10 ^ 9 → d < 10 → decimal (v * 10 + d) ≡ decimal v ++ ((48 + d) ∷ [])
+decimal_grow v d hv small hd =
+    let e : v * 10 + d ≡ 10 * v + d = omega arith in
+    rw (e, digits_more 8 v small) (digits_grow 9 v d hv hd)
+
+-- A number of two digits or more is a tenth of it, and its last digit.
+pub decimal_last : (x : ℕ) → 10 ≤ x → x < 10 ^ 10 → decimal x ≡ decimal (x / 10) ++ ((48 + x % 10) ∷ [])
+decimal_last x h k = digits_snoc 9 x h ∙ rw (sym (digits_more 8 (x / 10) (tenth_lt 9 x k)))
 
 -- The digits are std's.
 pub same_decimal : (n : ℕ) → n < 2 ^ 32 → decimal n ≡ std.decimal n

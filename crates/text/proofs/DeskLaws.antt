@@ -3,7 +3,7 @@ use Prim.Native.Nat.{ℕ, ◌*◌, ◌≤◌}
 use mathlib.Core.Path.{◌≡◌, refl, ap}
 use mathlib.Core.List.{List}
 use native.Mathlib.Omega.{arith}
-use lib.ListN.{length, take}
+use lib.ListN.{length, take, length-take}
 use Rattle.edits.specs.Store.{Store}
 use Rattle.sound.specs.Sound.{Shaped, Sound}
 use Rattle.sound.proofs.Kept.{empty_sound}
@@ -13,11 +13,11 @@ use Rattle.run.specs.declared.RunRefusal.{RunRefusal}
 use Rattle.run.specs.Run.{records_of, Lent, Lengths, Ran, done, midway, answered}
 use Rattle.run.proofs.OneAnswer.{ran_one}
 use Rattle.run.proofs.Steps.{stepped_answers, stepped_log, stepped_room}
-use Rattle.arrayvec.specs.ArrayVec.{ArrayVec}
 use Rattle.text.specs.Lines.{BadAt, call_words, desk_lent, run_lines, midway_lines, error_line, answers, refuses, Printed}
-use Rattle.text.specs.Parts.{CallsRead}
+use Rattle.text.specs.Parts.{Written, CallsRead}
 use Rattle.text.proofs.CallLaws.{words_length}
 use Rattle.text.proofs.SizeLaws.{run_fits, error_fits}
+use Rattle.text.proofs.PageLaws.{page_printed}
 use Rattle.text.proofs.ZeroLaws.{blank, blank_length, blank_zero}
 
 -- What the run leaves: room for what is printed of it, and the answers of every call.
@@ -103,18 +103,20 @@ module _ {text words words' : List ℕ} {n : ℕ} (read : CallsRead text words w
   pub read_length : length (take (4 * n) words') ≡ 4 * n
   read_length = rw (read.counted, read.kept.front) (words_length read.calls)
 
-  -- and a page of the lines of their run is what is printed.
-  pub read_printed : (page : ArrayVec ℕ) → page.items ≡ midway_lines (midway (desk_lent (take (4 * n) words')) n) n → Printed text page
-  read_printed page lines =
-      let e : page.items ≡ midway_lines (midway (desk_lent (call_words read.calls)) (length read.calls)) (length read.calls) = rw (read.counted, read.kept.front) at lines in
-      record {
-        right = rw e (answers read.calls read.good);
-        room = rw e (midway_fits (call_words read.calls) (length read.calls) read.good.few);
-      }
+  -- are within the array,
+  pub read_within : 4 * n ≤ length words'
+  read_within = omega (arith, read_length, length-take (4 * n) words')
 
--- So is a page of the line of an error.
-pub bad_printed : {text : List ℕ} {line : ℕ} → BadAt text line → (page : ArrayVec ℕ) → page.items ≡ error_line line → Printed text page
-bad_printed {text} {line} bad page e = record { right = rw e (refuses line bad); room = rw e (error_fits line) }
+  -- and what is written of their run is printed.
+  pub read_printed : {bytes : List ℕ} {len : ℕ} → Written (midway_lines (midway (desk_lent (take (4 * n) words')) n) n) (blank 32768) bytes len
+      → Printed text (record { bytes = bytes; len = len })
+  read_printed written =
+      page_printed (answers read.calls read.good) (midway_fits (call_words read.calls) (length read.calls) read.good.few) (rw (read.counted, read.kept.front) at written)
+
+-- So is what is written of an error.
+pub bad_printed : {text : List ℕ} {line : ℕ} → BadAt text line → {bytes : List ℕ} {len : ℕ} → Written (error_line line) (blank 32768) bytes len
+    → Printed text (record { bytes = bytes; len = len })
+bad_printed {text} {line} bad written = page_printed (refuses line bad) (error_fits line) written
 
 -- What a run reports where it is not asked whether it was refused.
 pub reported : (r : Result ℕ RunRefusal) → result_unwrap_or r 0 ≡ records_of r

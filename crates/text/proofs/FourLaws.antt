@@ -1,5 +1,6 @@
 -- Laws of tables of fours of words: a chunk of four is the words at a place.
 use Rattle.std.proofs.Common.{◌≡◌, ℕ, ◌+◌, ◌*◌, ◌/◌, ◌≤◌, List, ◌++◌, length, take, drop, ap, sym, ◌∙◌, arith, length-append, length-drop}
+use mathlib.Core.Logic.{◌⊎◌, inl, inr}
 use Rattle.std.specs.Prelude.{Some, None}
 use Rattle.std.specs.Borrow.{Bor}
 use Rattle.std.specs.Slice.Iter.{chunks_exact_rest, chunks_exact_size, chunks_exact_steps}
@@ -45,3 +46,9 @@ four_given table n s t four h step =
 -- and where none is given, all were.
 pub fours_end : (table : List ℕ) (n : ℕ) (s t : ChunksExact ℕ) → FoursGiven table n s → chunks_exact_steps s None t → length table / 4 ≡ n
 fours_end table n s t h step = omega (arith, h.fours, h.within, ap length h.left, length-drop (4 * n) table, step.1.0)
+
+-- So where the places of a range are over, or no four is left for one, as many are given as the range has.
+pub fours_all : (table : List ℕ) (i n : ℕ) (t : ChunksExact ℕ) (Over : Type 0)
+    → FoursGiven table i t → 4 * n ≤ length table → i ≤ n → (Over → n ≤ i) → Over ⊎ ((u : ChunksExact ℕ) × chunks_exact_steps t None u) → i ≡ n
+fours_all table i n t Over g room within over (inl done) = omega (arith, over done)
+fours_all table i n t Over g room within over (inr (u, step)) = omega (arith, fours_end table i t u g step)

@@ -1,5 +1,5 @@
 -- Laws of the output: the lines that bytes make one behind the other, and how long those are.
-use Prim.Native.Nat.{ℕ, suc, zero, ◌+◌, ◌*◌, ◌/◌, ◌≤◌, ◌<◌}
+use Prim.Native.Nat.{ℕ, suc, zero, ◌+◌, ◌-◌, ◌*◌, ◌/◌, ◌%◌, ◌^◌, ◌≤◌, ◌<◌}
 use mathlib.Core.Path.{◌≡◌, refl, sym, ◌∙◌, ap}
 use mathlib.Core.List.{List, [], ◌∷◌, ◌++◌, append_assoc, append-nil}
 use native.Mathlib.Omega.{arith}
@@ -8,10 +8,13 @@ use native.Mathlib.Decide.{ℕ_discrete}
 use native.Mathlib.Numerals.{add-one}
 use borrow.Author.Tests.{eq-eqb, ne_eqb}
 use lib.ListN.{length, get_or, take, drop, length-append, take-append-drop, length-take}
-use lib.Seq.{take-suc, get_or-take}
+use lib.Seq.{sets-eq, take-suc, get_or-take, drop-drop}
+use borrow.Rule.Slice.PartMut.{put_mid}
 use Rattle.text.specs.Decimal.{decimal, fields}
 use Rattle.text.specs.Lines.{newline, answer_line, record_line, record_lines, run_lines}
-use Rattle.text.specs.Parts.{words_at}
+use Rattle.text.specs.Parts.{words_at, Put, Written}
+use Rattle.text.proofs.DecimalLaws.{digits_one, decimal_last}
+use Rattle.text.proofs.CallLaws.{sets_append, sets_front}
 
 -- Fields behind fields.
 pub fields_append : (xs ys : List ℕ) → fields (xs ++ ys) ≡ fields xs ++ fields ys
@@ -53,10 +56,78 @@ answer_put answers four place e = rw e
 record_named : (log four : List ℕ) (r : ℕ) → four ≡ words_at log r → get_or four 0 0 ≡ get_or log (4 * r) 0
 record_named log four r e = rw e (ap (λ (i : ℕ). get_or log i 0) (omega arith))
 
+-- Two runs of bytes that are stored one behind the other are one run.
+pub put_more : (xs ys out out₁ out₂ : List ℕ) (at mid next : ℕ) → Put xs out at out₁ mid → Put ys out₁ mid out₂ next → Put (xs ++ ys) out at out₂ next
+put_more xs ys out out₁ out₂ at mid next p q =
+    record {
+      counted = simp length-append (omega (arith, p.counted, q.counted));
+      wrote = q.wrote ∙ rw (p.wrote, p.counted) (sets_append out xs ys at);
+    }
+
+-- What is stored from the front on stands there.
+pub put_front : (xs out out' : List ℕ) (next : ℕ) → length xs ≤ length out → Put xs out 0 out' next → Written xs out out' next
+put_front xs out out' next h p =
+    let e : next ≡ length xs = omega (arith, p.counted) in
+    record { counted = e; wrote = p.wrote ∙ rw e (sets_front out xs h) }
+
+-- Bytes that are copied over as many places are stored there.
+pub put_made : (bytes mid out : List ℕ) (at n : ℕ) → mid ≡ bytes → n ≡ length bytes → at + n ≤ length out → Put bytes out at (put_mid at (at + n - at) out mid) (at + n)
+put_made bytes mid out at n same counted room =
+    let k : at + n - at ≡ length bytes = omega arith in
+    let inside : at + length bytes ≤ length out = omega arith in
+    record {
+      counted = omega arith;
+      wrote = rw (k, same, drop-drop (length bytes) at out) (sym (sets-eq bytes out at inside ∙ append_assoc (take at out) bytes (drop (at + length bytes) out)));
+    }
+
+-- Nothing is put by storing nothing.
+pub put_nothing : (out : List ℕ) (at : ℕ) → Put [] out at out at
+put_nothing out at = record { counted = omega arith; wrote = refl }
+
+-- So is a line without fields.
+pub put_none : (out : List ℕ) (at : ℕ) → Put (fields []) out at out at
+unfolding fields
+put_none = put_nothing
+
+-- A field and the fields behind it.
+pub put_fields : (x : ℕ) (xs out out₁ out₂ : List ℕ) (at mid next : ℕ) → Put (9 ∷ decimal x) out at out₁ mid → Put (fields xs) out₁ mid out₂ next → Put (fields (x ∷ xs)) out at out₂ next
+unfolding fields
+put_fields x xs = put_more (9 ∷ decimal x) (fields xs)
+
+-- A letter, fields and a newline make a line.
+pub put_line :
+    (b : ℕ) (xs out out₁ out₂ out₃ : List ℕ) (at one two next : ℕ) →
+    Put (b ∷ []) out at out₁ one →
+    Put (fields xs) out₁ one out₂ two →
+    Put newline out₂ two out₃ next →
+    Put ((b ∷ fields xs) ++ newline) out at out₃ next
+put_line b xs out out₁ out₂ out₃ at one two next p q r =
+    put_more (b ∷ []) (fields xs ++ newline) out out₁ out₃ at one next p (put_more (fields xs) newline out₁ out₂ out₃ one two next q r)
+
+-- A number of one digit is put as that digit.
+pub put_digit : (x : ℕ) (out : List ℕ) (at : ℕ) (out' : List ℕ) (next : ℕ) → x < 10 → Put ((x + 48) ∷ []) out at out' next → Put (decimal x) out at out' next
+put_digit x out at out' next h p = let e : x + 48 ≡ 48 + x = omega arith in rw (digits_one 9 x h) (rw e at p)
+
+-- Any other is put as a tenth of it, and its last digit behind.
+pub put_last :
+    (x : ℕ) (out out₁ out₂ : List ℕ) (at mid next : ℕ) →
+    10 ≤ x →
+    x < 10 ^ 10 →
+    Put (decimal (x / 10)) out at out₁ mid →
+    Put ((x % 10 + 48) ∷ []) out₁ mid out₂ next →
+    Put (decimal x) out at out₂ next
+put_last x out out₁ out₂ at mid next h k p q =
+    let e : x % 10 + 48 ≡ 48 + x % 10 = omega arith in
+    rw (decimal_last x h k) (put_more (decimal (x / 10)) ((48 + x % 10) ∷ []) out out₁ out₂ at mid next p (rw e at q))
+
 -- A field is as long as its number and a tab.
 pub fields-length : (x : ℕ) (xs : List ℕ) → length (fields (x ∷ xs)) ≡ suc (length (decimal x)) + length (fields xs)
 unfolding fields
 fields-length x xs = length-append (9 ∷ decimal x) (fields xs)
+
+-- A number of two digits or more has one more than its tenth.
+pub last_length : (x : ℕ) → 10 ≤ x → x < 10 ^ 10 → length (decimal x) ≡ length (decimal (x / 10)) + 1
+last_length x h k = rw (decimal_last x h k) (length-append (decimal (x / 10)) ((48 + x % 10) ∷ []))
 
 -- No field, no byte.
 pub fields_none : length (fields []) ≡ 0

@@ -80,7 +80,7 @@ records_size log place (suc r) h = go (ℕ_discrete (get_or log (4 * r + 0) 0) p
     go (no e) (no l) k =
         rw (lines_same log place r e, told_same log place r (omega arith), told_same log (suc place) r (omega arith)) (omega arith)
 
-run_more_length : (answers log : List ℕ) (records n : ℕ) → length (run_lines answers log records (n + 1)) ≡ length (run_lines answers log records n) + length (answer_line answers n) + length (record_lines log n records)
+pub run_more_length : (answers log : List ℕ) (records n : ℕ) → length (run_lines answers log records (n + 1)) ≡ length (run_lines answers log records n) + length (answer_line answers n) + length (record_lines log n records)
 run_more_length answers log records n = rw run_more (simp length-append)
 
 run_size : (answers log : List ℕ) (records n : ℕ) → n ≤ 1000 → length (run_lines answers log records n) ≤ 50 * n + 39 * told log n records

@@ -2,8 +2,10 @@
 use Rattle.std.proofs.Common.{◌≡◌, ℕ, suc, zero, ◌+◌, ◌-◌, ◌≤◌, ◌<◌, ◌^◌, true, false, List, [], ◌∷◌, ◌++◌, sym, ◌∙◌, ap, arith, length, get_or, take, drop, length-drop, length-take, drop-cons}
 use Prim.Native.Nat.{min}
 use native.Mathlib.Decide.{dec_lt}
+use native.Mathlib.Nat.{add-zero}
 use lib.ListN.{drop_of_length-le, take-append-drop}
-use lib.Seq.{get_or-drop, get_or-take, drop-drop}
+use lib.Seq.{take-suc, get_or-drop, get_or-take, drop-drop}
+use native.Mathlib.Numerals.{add-one}
 use Rattle.std.specs.Prelude.{Result, Ok, Err, MatchOption}
 use Rattle.std.specs.Char.{is_ascii_digit}
 use Rattle.std.specs.List.{prefix_len}
@@ -17,7 +19,13 @@ use Rattle.std.proofs.lemmas.Str.{IsUtf8-from_ascii}
 use Rattle.std.proofs.lemmas.Str.Parse.{IsNumeralModel, numerals_by_value, parse_digits}
 use Rattle.text.specs.Decimal.{decimal}
 use Rattle.text.specs.Parts.{Digit, AllDigits, NoDigit, DigitsAt, NoNumber, NumberAt}
-use Rattle.text.proofs.DecimalLaws.{digits_all, digits_one, digits-length, digits_lead, same_decimal, run_within, runs_same}
+use Rattle.text.proofs.DecimalLaws.{append_all, digits_all, digits_one, digits-length, digits_lead, same_decimal, run_within, runs_same}
+
+-- A run of bytes from a place on, with the byte behind it.
+pub run_more : (s : List ℕ) (at n : ℕ) → at + n < length s → take (n + 1) (drop at s) ≡ take n (drop at s) ++ (get_or s (at + n) 0 ∷ [])
+run_more s at n h =
+    let k : n < length (drop at s) = simp length-drop (omega arith) in
+    rw (add-one, take-suc (drop at s) n 0 k, get_or-drop)
 
 -- A run of bytes from a place on has that many.
 pub run_length : (s : List ℕ) (at n : ℕ) → at + n ≤ length s → length (take n (drop at s)) ≡ n
@@ -34,6 +42,25 @@ run_split s at n = rw (← drop-drop n at s) (sym (take-append-drop n (drop at s
 all_from : (xs : List ℕ) → ((i : ℕ) → i < length xs → Digit (get_or xs i 0)) → AllDigits xs
 all_from [] f = tt
 all_from (x ∷ xs) f = (f 0 (omega arith), all_from xs (λ i h. f (suc i) (omega arith)))
+
+-- A digit behind a run of digits makes a longer one.
+pub all_more : (s : List ℕ) (at n : ℕ) → at + n < length s → Digit (get_or s (at + n) 0) → AllDigits (take n (drop at s)) → AllDigits (take (n + 1) (drop at s))
+all_more s at n h d a = rw (run_more s at n h) (append_all (take n (drop at s)) (get_or s (at + n) 0 ∷ []) a (d, tt))
+
+pub all_at : (xs : List ℕ) (i : ℕ) → i < length xs → AllDigits xs → Digit (get_or xs i 0)
+all_at [] i h a = absurd (omega arith)
+all_at (x ∷ xs) zero h a = a.0
+all_at (x ∷ xs) (suc i) h a = all_at xs i (omega arith) a.1
+
+-- Each byte of a run of digits is one.
+pub digit_at : (s : List ℕ) (at n i : ℕ) → at + n ≤ length s → i < n → AllDigits (take n (drop at s)) → Digit (get_or s (at + i) 0)
+digit_at s at n i h k a =
+    let j : i < length (take n (drop at s)) = rw (run_length s at n h) k in
+    rw (run_at s at n i k) at (all_at (take n (drop at s)) i j a)
+
+-- The first byte of a run of digits is one.
+pub digit_first : (s : List ℕ) (at n : ℕ) → at + n ≤ length s → 1 ≤ n → AllDigits (take n (drop at s)) → Digit (get_or s at 0)
+digit_first s at n h k a = rw add-zero at (digit_at s at n 0 h k a)
 
 digit_told : (b : ℕ) → is_ascii_digit b ≡ true → Digit b
 digit_told b h = grind (arith, nat_tests)
@@ -55,7 +82,7 @@ module _ (s : List ℕ) (at n : ℕ) (d : DigitsAt s at n) where
   run_is v rest h k e =
       (runs_same (take n (drop at s)) (decimal v) (drop (at + n) s) rest d.all (digits_all 10 v) (d.whole h) k (sym (run_split s at n) ∙ e)).0
 
-  long_run : 10 < n → NoNumber (drop at s)
+  pub long_run : 10 < n → NoNumber (drop at s)
   long_run z v rest h k e =
       let most : length (take n (drop at s)) ≤ length (decimal v)
       = run_within (take n (drop at s)) (decimal v) (drop (at + n) s) rest d.all k (sym (run_split s at n) ∙ e) in

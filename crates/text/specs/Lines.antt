@@ -1,12 +1,12 @@
 -- The lines of the desk (document 01, "The desk program"): what a text of calls says, its first bad line, and the answer.
-use Rattle.std.specs.Prelude.{ℕ, suc, zero, ◌+◌, ◌*◌, ◌≤◌, ◌<◌, ◌^◌, ◌≡◌, List, [], ◌∷◌, ◌++◌, length, get_or, replicate, eqb}
+use Rattle.std.specs.Prelude.{ℕ, suc, zero, ◌+◌, ◌-◌, ◌*◌, ◌≤◌, ◌<◌, ◌^◌, ◌≡◌, List, [], ◌∷◌, ◌++◌, length, get_or, replicate, eqb}
 use Rattle.slabs.specs.Choice.{pick}
 use Rattle.slabs.specs.Counters.{none_counted}
 use Rattle.edits.specs.Store.{store_of}
 use Rattle.calls.specs.declared.Call.{Call}
 use Rattle.run.specs.Run.{Lent, Midway, midway}
 use Rattle.text.specs.Decimal.{decimal, fields}
-use Rattle.arrayvec.specs.ArrayVec.{ArrayVec, array_vec_len}
+use Rattle.text.specs.declared.Page.{Page}
 
 -- a line ends with LF
 abbrev pub newline : List ℕ
@@ -106,7 +106,10 @@ pub data Desk (text : List ℕ) : List ℕ → Type 0 where
   answers : (calls : List Call) → Good text calls → Desk text (midway_lines (midway (desk_memory calls) (length calls)) (length calls))
   refuses : (line : ℕ) → BadAt text line → Desk text (error_line line)
 
--- What is printed is the page, whole, and the page has room for it.
-pub record Printed (text : List ℕ) (page : ArrayVec ℕ) : Type 0 where
-  pub right : Desk text page.items
-  pub room : array_vec_len page ≤ 32768
+-- What is printed stands at the front of the page, and the bytes after it are 0.
+pub record Printed (text : List ℕ) (page : Page) : Type 0 where
+  pub line : List ℕ
+  pub right : Desk text line
+  pub counted : page.len ≡ length line
+  pub room : length line ≤ 32768
+  pub page_is : page.bytes ≡ line ++ replicate (32768 - length line) 0

@@ -1,5 +1,6 @@
 -- What the parts of the desk's reader and writer promise.
 use Rattle.std.specs.Prelude.{ℕ, ◌+◌, ◌*◌, ◌≤◌, ◌<◌, ◌^◌, ◌≡◌, List, [], ◌∷◌, ◌++◌, length, get_or, take, drop, Option, Some, None, Result, Ok, Err}
+use Rattle.std.proofs.lemmas.List.Edits.{sets}
 use Rattle.text.specs.Decimal.{decimal}
 use Rattle.calls.specs.declared.Call.{Call}
 use Rattle.text.specs.Lines.{Small, NoLine, Good, BadAt, call_line, call_words}
@@ -93,3 +94,13 @@ TextRead s words words' (Err first) = BadRead s words words' first.line
 -- the four words of entry i
 abbrev pub words_at : List ℕ → ℕ → List ℕ
 words_at words i = get_or words (4 * i + 0) 0 ∷ get_or words (4 * i + 1) 0 ∷ get_or words (4 * i + 2) 0 ∷ get_or words (4 * i + 3) 0 ∷ []
+
+-- Some bytes are stored from a place on, and what is handed back is the place behind them.
+pub record Put (bytes out : List ℕ) (at : ℕ) (out' : List ℕ) (next : ℕ) : Type 0 where
+  pub counted : next ≡ at + length bytes
+  pub wrote : out' ≡ sets out at bytes
+
+-- Some bytes stand at the front of the output, so many, and the bytes after them stay.
+pub record Written (bytes out out' : List ℕ) (n : ℕ) : Type 0 where
+  pub counted : n ≡ length bytes
+  pub wrote : out' ≡ bytes ++ drop n out

@@ -11,4 +11,4 @@ put_run-requires-clause-records_bound c =
 pub returns : goal.returns
 returns c =
     let l = desk_left c.args.calls.now c.args.n c.requires.0 c.requires.1 (rw c.none_counted.ensures at c.run-ran.ensures.run) in
-    rw (c.unwrap_or.ensures ∙ reported c.run-ran.result.records) at c.put_run.ensures ∙ l.lines
+    rw (← l.lines, ← c.unwrap_or.ensures ∙ reported c.run-ran.result.records) c.put_run.ensures

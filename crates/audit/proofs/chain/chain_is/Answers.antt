@@ -27,27 +27,28 @@ module _ (slots : List ℕ) (mark before n i : ℕ) (more : i < n) where
   starts : (word : ℕ) → Walk slots mark word before (n - i) → 1 ≤ word
   starts word w = let e : n - i ≡ suc (n - (i + 1)) = omega arith in (rw e at w).0
 
+pub returns-then-word-eq0 : goal.returns-then-word-eq0
+returns-then-word-eq0 c =
+    let a = c.args in
+    let l = c.loop in
+    decided_not (λ h. omega (arith, c.if-word-eq0.true, starts a.slots.words.now a.slots.mark l.before a.n l.counter (omega arith) l.word (l.invariant.onward h)))
+
 pub returns-in_default : goal.returns-in_default
 returns-in_default c =
     let a = c.args in
     let l = c.loop in
-    decided_not (λ h. c.in_default.ensures (starts a.slots.words.now a.slots.mark l.before a.n l.counter (omega arith) l.word (l.invariant.onward h)))
-
-pub returns-in_default-next_of : goal.returns-in_default-next_of
-returns-in_default-next_of c =
-    let a = c.args in
-    let l = c.loop in
-    let e : l.word ≡ suc c.in-Some.slot = omega (arith, c.in-Some.ensures) in
+    let slot : ℕ = l.word - 1 in
+    let e : l.word ≡ suc slot = omega arith in
     decided_not
-    (λ h. c.in_default-next_of.ensures (step a.slots.words.now a.slots.mark l.before a.n l.counter (omega arith) c.in-Some.slot (rw e at (l.invariant.onward h))).0)
+    (λ h. c.in_default.ensures (step a.slots.words.now a.slots.mark l.before a.n l.counter (omega arith) slot (rw e at (l.invariant.onward h))).0)
 
 pub loop-preserved : goal.loop-preserved
 loop-preserved c =
     let a = c.args in
     let l = c.loop in
-    let slot = c.in-Some.slot in
-    let (holds, next) = c.in-Some-next_of.ensures in
-    let e : l.word ≡ suc slot = omega (arith, c.in-Some.ensures) in
+    let slot : ℕ = l.word - 1 in
+    let (holds, next) = c.in-Some.ensures in
+    let e : l.word ≡ suc slot = omega arith in
     record {
       onward = λ h. rw (e, next) (step a.slots.words.now a.slots.mark l.before a.n l.counter (omega arith) slot (rw e at (l.invariant.onward h))).1;
       back =

@@ -3,8 +3,8 @@ use Prim.Native.Nat.{◌-◌}
 use Rattle.audit.proofs.FreeLaws.{Walked}
 use Rattle.audit.proofs.ports.free_chain.Given as goal
 
-abbrev pub invariant-loop-first : goal.invariant-loop-first
-invariant-loop-first l = Walked l.below.links.now l.below.owners.now l.initial.scratch l.below.mark l.head l.size l.scratch l.ports l.word
+abbrev pub invariant-loop-word : goal.invariant-loop-word
+invariant-loop-word l = Walked l.below.links.now l.below.owners.now l.initial.scratch l.below.mark l.head l.size l.scratch l.ports l.word
 
-abbrev pub decreases-loop-first : goal.decreases-loop-first
-decreases-loop-first l = l.below.mark - l.ports
+abbrev pub decreases-loop-word : goal.decreases-loop-word
+decreases-loop-word l = l.below.mark - l.ports
