@@ -15,7 +15,13 @@ pub fn run_is(table: &[u32], first: usize, n: usize, word: u32) -> bool
     requires { first + n ≤ length table.now }
     ensures { Decides result (RunIs table.now first n word) }
 {
-    table[first..first + n].iter().all(|held| *held == word)
+    // A loop, since most runs are short, and `all` tests twice whether one is over.
+    for i in 0..n {
+        if table[first + i] != word {
+            return false;
+        }
+    }
+    true
 }
 
 // Takes n places from `first` on: each must be 0 and becomes 1. It works over the whole table with a place and a number, for its promise
